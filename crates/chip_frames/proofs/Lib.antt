@@ -1,0 +1,3 @@
+pub mod Restating
+pub mod Framing
+pub mod Pagewise
