@@ -1,0 +1,4 @@
+pub mod Geometry
+pub mod Bytes
+pub mod Records
+pub mod Entries

@@ -1,0 +1,67 @@
+// The entries of the mapping table: for each data page, whether it holds a disk address, and which.
+ghost use mathlib.Core.Path.{_≡_};
+ghost use Rattle.layout.specs.Entries.{mark-number, entry-bytes, Proper-entry};
+use crate::cells::Cell;
+use device::DiskAddress;
+
+#[derive(Clone, Copy, PartialEq, Eq, Debug)]
+pub enum Mark {
+    Empty,
+    Clean,
+    Dirty,
+}
+
+// Without a mark the address is 0.
+#[derive(Clone, Copy)]
+pub struct Entry {
+    pub mark: Mark,
+    pub address: DiskAddress,
+}
+
+impl Mark {
+    // The number by which the mark is known on flash and to callers.
+    pub fn number(self) -> u8
+        ensures { λ r. ⌜ r ≡ mark-number self ⌝ }
+    {
+        match self {
+            Mark::Empty => 0,
+            Mark::Clean => 1,
+            Mark::Dirty => 2,
+        }
+    }
+}
+
+pub impl Cell for Entry as EntryCell {
+    ghost bytes = { entry-bytes };
+
+    ghost proper = { Proper-entry };
+
+    fn encode(self) -> [u8; 8] {
+        let [a, b, c, d] = self.address.0.to_be_bytes();
+        [self.mark.number(), 0, 0, 0, a, b, c, d]
+    }
+
+    fn decode(from: &[u8]) -> Option<Entry> {
+        match from {
+            [0, 0, 0, 0, 0, 0, 0, 0] => Some(Entry {
+                mark: Mark::Empty,
+                address: DiskAddress(0),
+            }),
+            [1, 0, 0, 0, a, b, c, d] => {
+                let address = DiskAddress(u32::from_be_bytes([*a, *b, *c, *d]));
+                Some(Entry {
+                    mark: Mark::Clean,
+                    address,
+                })
+            }
+            [2, 0, 0, 0, a, b, c, d] => {
+                let address = DiskAddress(u32::from_be_bytes([*a, *b, *c, *d]));
+                Some(Entry {
+                    mark: Mark::Dirty,
+                    address,
+                })
+            }
+            _ => None,
+        }
+    }
+}
