@@ -1,15 +1,15 @@
 -- A frame hangs on its own bytes alone, and what each write to the bytes makes of its frame.
-use Prim.Native.Nat.{ℕ, _*_, _+_, _-_, _<_, _≤_, min}
+use Prim.Native.Nat.{ℕ, _+_, _-_, _<_, _≤_, min}
 use borrow.Author.Needs.{needs}
 use borrow.Rule.Slice.PartMut.{putMid}
 use lib.ListN.{length, getD, take, drop, set}
 use mathlib.Core.List.{List}
 use mathlib.Core.Logic.{_⊎_, inl, inr}
-use mathlib.Core.Path.{_≡_, refl, sym, ap, _∙_}
+use mathlib.Core.Path.{_≡_, ap, _∙_}
 use native.Mathlib.Omega.{arith}
 use Rattle.std.proofs.shelf.Lists.{places, ext-getD, length-take, length-drop, length-set, getD-take, getD-drop, getD-set-other, getD-set-same}
 use Rattle.std.proofs.shelf.Parts.{between-putMid}
-use Rattle.disk_frames.specs.Frames.{Frame, frame-at, settled-at, new-at, written-frame, settled-with}
+use Rattle.disk_frames.specs.Frames.{Frame, frame-at, settled-at, new-at, with-state, with-new, with-new-kept}
 
 -- 512 elements of one list are 512 elements of another, place by place
 pub same-part : (xs ys : List ℕ) (a b : ℕ) → min 512 (length xs - a) ≡ min 512 (length ys - b)
@@ -60,51 +60,58 @@ module _ (a k : ℕ) (xs ys : List ℕ) (inside : a + k ≤ length xs) (whole : 
   pub mid-length : length (putMid a k xs ys) ≡ length xs
   mid-length = search (needs, places)
 
--- The frame at i with its state set to 1 and its new content, of k bytes, written over.
-abbrev pub over-new : List ℕ → List ℕ → ℕ → ℕ → List ℕ
-over-new xs bytes i k = putMid (i + 514) k (set xs i 1) bytes
+-- Each part of the frame at i, of a list xs, written over.
+module _ (xs : List ℕ) (i : ℕ) (inside : i + 1026 ≤ length xs) where
+  -- what lies outside the frame
+  abbrev pub Outside : List ℕ → Type 0
+  Outside ys = (n : ℕ) → (n < i) ⊎ (i + 1026 ≤ n) → getD ys n 0 ≡ getD xs n 0
 
-module _ (xs bytes : List ℕ) (i k : ℕ) (size : k ≡ 512) (inside : i + 1026 ≤ length xs) (whole : length bytes ≡ 512) where
-  abbrev with-new : List ℕ
-  with-new = over-new xs bytes i k
+  pub state-outside : (s : ℕ) → Outside (set xs i s)
+  state-outside s n (inl h) = getD-set-other xs i n s 0 (omega arith)
+  state-outside s n (inr h) = getD-set-other xs i n s 0 (omega arith)
 
-  pub with-new-length : length with-new ≡ length xs
-  with-new-length =
-      mid-length (i + 514) k (set xs i 1) bytes (simp length-set (omega arith)) (whole ∙ sym size) ∙ length-set xs i 1
+  pub state-frame : (s : ℕ) → frame-at (set xs i s) i ≡ with-state s (frame-at xs i)
+  state-frame s =
+      same-parts (frame-at (set xs i s) i) (with-state s (frame-at xs i))
+      (getD-set-same xs i s 0 (omega arith))
+      (getD-set-other xs i (i + 1) s 0 (omega arith))
+      (same-settled xs (set xs i s) (length-set xs i s) i (λ n l h. getD-set-other xs i n s 0 (omega arith)))
+      (same-new xs (set xs i s) (length-set xs i s) i (λ n l h. getD-set-other xs i n s 0 (omega arith)))
 
-  with-new-below : (n : ℕ) → n < i + 514 → getD with-new n 0 ≡ getD (set xs i 1) n 0
-  with-new-below n h = mid-below (i + 514) k (set xs i 1) bytes (simp length-set (omega arith)) (whole ∙ sym size) n h
+  -- the new content, of k bytes
+  module _ (bytes : List ℕ) (k : ℕ) (size : k ≡ 512) (whole : length bytes ≡ 512) where
+    pub new-length : length (putMid (i + 514) k xs bytes) ≡ length xs
+    new-length = mid-length (i + 514) k xs bytes (omega arith) (omega arith)
 
-  pub with-new-others : (n : ℕ) → (n < i) ⊎ (i + 1026 ≤ n) → getD with-new n 0 ≡ getD xs n 0
-  with-new-others n (inl h) = with-new-below n (omega arith) ∙ getD-set-other xs i n 1 0 (omega arith)
-  with-new-others n (inr h) =
-      mid-above (i + 514) k (set xs i 1) bytes (simp length-set (omega arith)) (whole ∙ sym size) n (omega arith) ∙ getD-set-other xs i n 1 0 (omega arith)
+    new-below : (n : ℕ) → n < i + 514 → getD (putMid (i + 514) k xs bytes) n 0 ≡ getD xs n 0
+    new-below n h = mid-below (i + 514) k xs bytes (omega arith) (omega arith) n h
 
-  new-is : new-at with-new i ≡ bytes
-  unfolding new-at
-  new-is =
-      let e : i + 1026 - (i + 514) ≡ 512 = omega arith in
-      let t = between-putMid (i + 514) k (set xs i 1) bytes (i + 1026) (simp length-set (omega arith)) (omega arith) in
-      rw e at t
+    pub new-outside : Outside (putMid (i + 514) k xs bytes)
+    new-outside n (inl h) = new-below n (omega arith)
+    new-outside n (inr h) = mid-above (i + 514) k xs bytes (omega arith) (omega arith) n (omega arith)
 
-  pub with-new-frame : frame-at with-new i ≡ written-frame bytes (frame-at xs i)
-  with-new-frame =
-      same-parts (frame-at with-new i) (written-frame bytes (frame-at xs i))
-      (with-new-below i (omega arith) ∙ getD-set-same xs i 1 0 (omega arith))
-      (with-new-below (i + 1) (omega arith) ∙ getD-set-other xs i (i + 1) 1 0 (omega arith))
-      (same-settled xs with-new with-new-length i (λ n l h. with-new-below n h ∙ getD-set-other xs i n 1 0 (omega arith)))
-      new-is
+    new-is : new-at (putMid (i + 514) k xs bytes) i ≡ bytes
+    unfolding new-at
+    new-is =
+        let e : i + 1026 - (i + 514) ≡ 512 = omega arith in
+        let t = between-putMid (i + 514) k xs bytes (i + 1026) (omega arith) (omega arith) in
+        rw e at t
 
--- The frame at i with its state set to 0, where ys has no other bytes than xs but, perhaps, in its settled content.
-module _ (xs ys : List ℕ) (i : ℕ) (inside : i + 1026 ≤ length xs) (len : length ys ≡ length xs) (same : (k : ℕ) → (k < i + 2) ⊎ (i + 514 ≤ k) → getD ys k 0 ≡ getD xs k 0) where
-  pub set-settled-others : (n : ℕ) → (n < i) ⊎ (i + 1026 ≤ n) → getD (set ys i 0) n 0 ≡ getD xs n 0
-  set-settled-others n (inl h) = getD-set-other ys i n 0 0 (omega arith) ∙ same n (inl (omega arith))
-  set-settled-others n (inr h) = getD-set-other ys i n 0 0 (omega arith) ∙ same n (inr (omega arith))
+    pub new-frame : frame-at (putMid (i + 514) k xs bytes) i ≡ with-new bytes (frame-at xs i)
+    new-frame =
+        same-parts (frame-at (putMid (i + 514) k xs bytes) i) (with-new bytes (frame-at xs i))
+        (new-below i (omega arith))
+        (new-below (i + 1) (omega arith))
+        (same-settled xs (putMid (i + 514) k xs bytes) new-length i (λ n l h. new-below n h))
+        new-is
 
-  pub set-settled-frame : (bytes : List ℕ) → settled-at ys i ≡ bytes → frame-at (set ys i 0) i ≡ settled-with bytes (frame-at xs i)
-  set-settled-frame bytes e =
-      same-parts (frame-at (set ys i 0) i) (settled-with bytes (frame-at xs i))
-      (getD-set-same ys i 0 0 (omega arith))
-      (getD-set-other ys i (i + 1) 0 0 (omega arith) ∙ same (i + 1) (inl (omega arith)))
-      (same-settled ys (set ys i 0) (length-set ys i 0) i (λ n l h. getD-set-other ys i n 0 0 (omega arith)) ∙ e)
-      (same-new xs (set ys i 0) (length-set ys i 0 ∙ len) i (λ n l h. getD-set-other ys i n 0 0 (omega arith) ∙ same n (inr (omega arith))))
+  -- the settled content, with what the new content is
+  module _ (ys : List ℕ) (len : length ys ≡ length xs) (copied : (n : ℕ) → i + 2 ≤ n → n < i + 514 → getD ys n 0 ≡ getD xs (i + 514 + (n - (i + 2))) 0) (same : (n : ℕ) → (n < i + 2) ⊎ (i + 514 ≤ n) → getD ys n 0 ≡ getD xs n 0) where
+    pub kept-outside : Outside ys
+    kept-outside n (inl h) = same n (inl (omega arith))
+    kept-outside n (inr h) = same n (inr (omega arith))
+
+    pub kept-frame : frame-at ys i ≡ with-new-kept (frame-at xs i)
+    kept-frame =
+        same-parts (frame-at ys i) (with-new-kept (frame-at xs i)) (same i (inl (omega arith))) (same (i + 1) (inl (omega arith)))
+        (copied-settled xs ys len i inside copied) (same-new xs ys len i (λ n l h. same n (inr l)))

@@ -6,8 +6,6 @@ use lib.ListN.{length, getD, take, drop}
 use mathlib.Core.Bool.{Bool, cond}
 use mathlib.Core.List.{List, []}
 use mathlib.Core.Path.{_≡_}
-use Rattle.std.specs.declared.option.Option.{Option}
-use Rattle.std.specs.declared.option.Option.the-variants.{Some, None}
 use Rattle.device.specs.Cells.{Cell}
 use Rattle.device.specs.Cells.Cell.{settled, unsettled}
 use Rattle.device.specs.Disks.{Blocks}
@@ -32,9 +30,8 @@ frame-at xs i = record { state = getD xs i 0; fate = getD xs (i + 1) 0; settled-
 abbrev pub frame-of : List ℕ → ℕ → Frame
 frame-of xs q = frame-at xs (1026 * q)
 
--- the blocks in an image of so many bytes
-abbrev pub blocks-in : ℕ → ℕ
-blocks-in len = len / 1026
+abbrev pub blocks-in : List ℕ → ℕ
+blocks-in xs = length xs / 1026
 
 -- What a frame means: a state other than 1 is settled. An image with a state above 1 is refused when a disk is made of it.
 abbrev pub block-of-frame : Frame → Cell (List ℕ)
@@ -42,10 +39,26 @@ block-of-frame f = cond (eqb (f .state) 1) (unsettled (f .settled-content) (f .n
 
 -- past the last block there is nothing
 abbrev pub block-in : List ℕ → ℕ → Cell (List ℕ)
-block-in xs q = cond (ltb q (blocks-in (length xs))) (block-of-frame (frame-of xs q)) (settled [])
+block-in xs q = cond (ltb q (blocks-in xs)) (block-of-frame (frame-of xs q)) (settled [])
 
 abbrev pub image-blocks : Bool → List ℕ → Blocks
-image-blocks on xs = record { on = on; size = blocks-in (length xs); cell = block-in xs }
+image-blocks on xs = record { on = on; size = blocks-in xs; cell = block-in xs }
+
+-- an image serves if it has 1 to 65,536 whole frames
+pub record Whole (xs : List ℕ) : Type 0 where
+  pub whole : length xs ≡ 1026 * blocks-in xs
+  pub some : 0 < blocks-in xs
+  pub few : blocks-in xs ≤ 65536
+
+-- a frame with one part changed
+abbrev pub with-state : ℕ → Frame → Frame
+with-state state f = record { state = state; fate = f .fate; settled-content = f .settled-content; new-content = f .new-content }
+
+abbrev pub with-new : List ℕ → Frame → Frame
+with-new bytes f = record { state = f .state; fate = f .fate; settled-content = f .settled-content; new-content = bytes }
+
+abbrev pub with-new-kept : Frame → Frame
+with-new-kept f = record { state = f .state; fate = f .fate; settled-content = f .new-content; new-content = f .new-content }
 
 -- A frame once its block is written: unsettled, its settled content as it was.
 abbrev pub written-frame : List ℕ → Frame → Frame
@@ -85,9 +98,14 @@ Changes-first n f xs ys = (q : ℕ) → frame-of ys q ≡ cond (ltb q n) (f (fra
 
 -- the frame of every block is changed, by f
 abbrev pub Changes-all : (Frame → Frame) → List ℕ → List ℕ → Type 0
-Changes-all f xs ys = Changes-first (blocks-in (length xs)) f xs ys
+Changes-all f xs ys = Changes-first (blocks-in xs) f xs ys
 
--- the first block whose state is neither settled nor unsettled
-abbrev pub First-bad : List ℕ → Option ℕ → Type 0
-First-bad xs (Some b) = (b < blocks-in (length xs)) × (1 < frame-of xs b .state) × ((q : ℕ) → q < b → frame-of xs q .state ≤ 1)
-First-bad xs None = (q : ℕ) → q < blocks-in (length xs) → frame-of xs q .state ≤ 1
+-- the frames of the first k blocks are settled or unsettled
+abbrev pub Listed : List ℕ → ℕ → Type 0
+Listed xs k = (q : ℕ) → q < k → frame-of xs q .state ≤ 1
+
+-- block b is the first that is neither
+pub record First-bad (xs : List ℕ) (b : ℕ) : Type 0 where
+  pub inside : b < blocks-in xs
+  pub bad : 1 < frame-of xs b .state
+  pub before : Listed xs b
