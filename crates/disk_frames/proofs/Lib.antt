@@ -1,3 +1,3 @@
 pub mod Bytes
 pub mod Changes
-pub mod Served
+pub mod Blockwise

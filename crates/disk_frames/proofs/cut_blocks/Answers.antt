@@ -2,7 +2,7 @@
 use native.Mathlib.Omega.{arith}
 use mathlib.Core.Path.{_≡_, subst}
 use Rattle.disk_frames.specs.Frames.{Changes-first, Changes-all, blocks-in, cut-frame}
-use Rattle.disk_frames.proofs.Changes.{blocks-cut}
+use Rattle.disk_frames.proofs.Blockwise.{blocks-cut}
 use Rattle.disk_frames.proofs.cut_blocks.Needs as need
 
 pub returns : need.returns

@@ -2,7 +2,7 @@
 use native.Mathlib.Omega.{arith}
 use mathlib.Core.Path.{_≡_, subst}
 use Rattle.disk_frames.specs.Frames.{Changes-first, Changes-all, blocks-in, settled-frame}
-use Rattle.disk_frames.proofs.Changes.{blocks-settled}
+use Rattle.disk_frames.proofs.Blockwise.{blocks-settled}
 use Rattle.disk_frames.proofs.settle_blocks.Needs as need
 
 pub returns : need.returns
