@@ -1,0 +1,5 @@
+pub mod Joining
+pub mod Refusing
+pub mod Halfwise
+pub mod Staging
+pub mod Reporting

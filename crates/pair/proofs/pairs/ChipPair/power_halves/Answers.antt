@@ -1,0 +1,12 @@
+use Rattle.pair.proofs.Staging.{powers-in-turn}
+use Rattle.pair.proofs.pairs.ChipPair.power_halves.Needs as need
+
+pub returns : need.returns
+returns g c =
+    let s = c .args .self .now in
+    let mP = g .P·Chip .meaning in
+    let mQ = g .Q·Chip .meaning in
+    let h = c .in-Continue-power-on .ensures tt in
+    let t = powers-in-turn (s .on) (mP (s .first)) (mQ (s .second)) (mP (c .power-on .last .self)) (mQ (c .power-on-2 .last .self)) (c .pre .0) (c .power-on-2 .result) (h .rules)
+    (c .power-on-2 .ensures .rules) in
+    record { sound = (t .0, h .sound, c .power-on-2 .ensures .sound); rules = t .1 }
