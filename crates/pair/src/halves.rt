@@ -12,13 +12,13 @@ use device::Refusal;
 use device::RefusalPartialEq;
 
 // Where a place of a pair lies: in the first half, where it is the same place, or in the second, at a place of its own.
-pub enum Half<L> {
+pub(super) enum Half<L> {
     First,
     Second(L),
 }
 
 // How many pages a chip has.
-pub fn pages<C: Chip>(chip: &C) -> u32
+pub(super) fn pages<C: Chip>(chip: &C) -> u32
     requires { ⌜ C·Chip .sound (now chip) ⌝ }
     ensures number { λ r. ⌜ r ≡ page-count (C·Chip .meaning (now (chip .entry))) ⌝ }
     ensures few { λ r. ⌜ r ≤ 512 ⌝ }
@@ -27,7 +27,7 @@ pub fn pages<C: Chip>(chip: &C) -> u32
 }
 
 // The fault of a pair that has no power.
-pub fn power_off(place: u32) -> Fault
+pub(super) fn power_off(place: u32) -> Fault
     ensures { λ r. ⌜ r ≡ chip-fault place no-power ⌝ }
 {
     Fault {
@@ -38,7 +38,7 @@ pub fn power_off(place: u32) -> Fault
 }
 
 // Whether a half that was on is on after this answer.
-pub fn still_on<T>(answer: &Result<T, Fault>) -> bool
+pub(super) fn still_on<T>(answer: &Result<T, Fault>) -> bool
     ensures { λ r. ⌜ r ≡ keeps-power (now (answer .entry)) ⌝ }
 {
     match answer {
@@ -48,7 +48,7 @@ pub fn still_on<T>(answer: &Result<T, Fault>) -> bool
 }
 
 // A half's answer, its fault at the place that the pair was given.
-pub fn at_place<T>(answer: Result<T, Fault>, place: u32) -> Result<T, Fault>
+pub(super) fn at_place<T>(answer: Result<T, Fault>, place: u32) -> Result<T, Fault>
     ensures { λ r. ⌜ r ≡ placed-at place answer ⌝ }
 {
     match answer {

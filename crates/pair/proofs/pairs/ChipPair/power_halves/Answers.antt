@@ -1,3 +1,4 @@
+-- Two power-ons in turn are one of the pair.
 use Rattle.pair.proofs.Staging.{powers-in-turn}
 use Rattle.pair.proofs.pairs.ChipPair.power_halves.Needs as need
 

@@ -1,3 +1,4 @@
+-- A call that the first half answers is one of the pair.
 use Rattle.pair.specs.Halves.{keeps-power}
 use Rattle.pair.specs.Pairs.{pair-meaning}
 use Rattle.pair.proofs.Halfwise.{program-first}
