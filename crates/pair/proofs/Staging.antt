@@ -11,7 +11,9 @@ use Rattle.std.specs.declared.result.Result.the-variants.{Ok, Err}
 use Rattle.device.specs.declared.faults.Fault.{Fault}
 use Rattle.device.specs.Cells.{Cell, Cut}
 use Rattle.device.specs.Chips.{State, Pages, Tears, Powers}
+use Rattle.pair.specs.declared.pairs.ChipPair.{ChipPair}
 use Rattle.pair.specs.Halves.{join, Paired}
+use Rattle.pair.specs.Pairs.{In-turn}
 use Rattle.pair.proofs.Joining.{join-becomes}
 
 module _ (on : Bool) (a b a′ b′ : Pages) (pd : Paired on a b) where
@@ -44,3 +46,10 @@ module _ (on : Bool) (a b a′ b′ : Pages) (pd : Paired on a b) where
   pub powers-in-turn : (r : Result (Unit {0}) Fault) → Powers a (Ok tt) a′ → Powers b r b′ → Paired (isOk r) a′ b′ × Powers (join on a b) r (join (isOk r) a′ b′)
   powers-in-turn (Ok tt) h k = powers-both h k
   powers-in-turn (Err f) h k = powers-first f h k
+
+-- a first half that served, and then whatever the second answered
+pub both-in-turn : {P Q : Type 0} (meaning : P → Pages) (meaning′ : Q → Pages) (does : Pages → Result (Unit {0}) Fault → Pages → Type 0) (c d : ChipPair P Q)
+    (r : Result (Unit {0}) Fault) → does (meaning (c .first)) (Ok tt) (meaning (d .first)) → does (meaning′ (c .second)) r (meaning′ (d .second))
+    → In-turn meaning meaning′ does c r d
+both-in-turn meaning meaning′ does c d (Ok tt) h k = (h, k)
+both-in-turn meaning meaning′ does c d (Err f) h k = inr (h, k)

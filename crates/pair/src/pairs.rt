@@ -2,10 +2,10 @@
 ghost use mathlib.Core.Bool.{true};
 ghost use mathlib.Core.Path.{_≡_};
 ghost use Prim.Native.Nat.{_+_, _<_};
-ghost use Rattle.device.specs.Chips.{page-count, Reads, Programs, Erases, Powers};
+ghost use Rattle.device.specs.Chips.{page-count, Reads, Programs, Erases, Syncs, Powers};
 ghost use Rattle.std.specs.Results.{isOk};
 ghost use Rattle.pair.specs.Halves.{join, placed-at, keeps-power, Page-lies, Block-lies};
-ghost use Rattle.pair.specs.Pairs.{pair-meaning, Pair-sound, Pair-made, Pair-opens};
+ghost use Rattle.pair.specs.Pairs.{pair-meaning, Pair-sound, Pair-made, Pair-opens, In-turn};
 use super::halves::Half;
 use super::halves::at_place;
 use super::halves::pages;
@@ -194,10 +194,23 @@ impl<P: Chip, Q: Chip> ChipPair<P, Q> {
         self.report(answer, block.0)
     }
 
-    // Powers the halves on, the second only if the first is; the pair itself stays as it is.
+    // Syncs the halves, the second only if the first was synced; whether the pair is on stays.
+    fn sync_halves(&mut self) -> Result<(), Fault>
+        requires sound { ⌜ Pair-sound (P·Chip .meaning) (Q·Chip .meaning) (P·Chip .sound) (Q·Chip .sound) (now self) ⌝ }
+        requires power { ⌜ now self .on ≡ true ⌝ }
+        ensures sound { λ r. ⌜ Pair-sound (P·Chip .meaning) (Q·Chip .meaning) (P·Chip .sound) (Q·Chip .sound) (record { first = now (self .exit) .first; second = now (self .exit) .second; on = keeps-power r }) ⌝ }
+        ensures turn { λ r. ⌜ In-turn (P·Chip .meaning) (Q·Chip .meaning) Syncs (now (self .entry)) r (now (self .exit)) ⌝ }
+        ensures rules { λ r. ⌜ Syncs (pair-meaning (P·Chip .meaning) (Q·Chip .meaning) (now (self .entry))) r (join (keeps-power r) (P·Chip .meaning (now (self .exit) .first)) (Q·Chip .meaning (now (self .exit) .second))) ⌝ }
+    {
+        self.first.sync()?;
+        self.second.sync()
+    }
+
+    // Powers the halves on, the second only if the first is; whether the pair is on stays.
     fn power_halves(&mut self) -> Result<(), Fault>
         requires { ⌜ Pair-sound (P·Chip .meaning) (Q·Chip .meaning) (P·Chip .sound) (Q·Chip .sound) (now self) ⌝ }
         ensures sound { λ r. ⌜ Pair-sound (P·Chip .meaning) (Q·Chip .meaning) (P·Chip .sound) (Q·Chip .sound) (record { first = now (self .exit) .first; second = now (self .exit) .second; on = isOk r }) ⌝ }
+        ensures turn { λ r. ⌜ In-turn (P·Chip .meaning) (Q·Chip .meaning) Powers (now (self .entry)) r (now (self .exit)) ⌝ }
         ensures rules { λ r. ⌜ Powers (pair-meaning (P·Chip .meaning) (Q·Chip .meaning) (now (self .entry))) r (join (isOk r) (P·Chip .meaning (now (self .exit) .first)) (Q·Chip .meaning (now (self .exit) .second))) ⌝ }
     {
         self.first.power_on()?;
@@ -244,17 +257,28 @@ pub impl<P: Chip, Q: Chip> Chip for ChipPair<P, Q> as ChipPairChip {
         }
     }
 
-    fn sync(&mut self) -> Result<(), Fault> {
+    // The first half, then the second, which is not reached if the first loses power.
+    fn sync(&mut self) -> Result<(), Fault>
+        requires { ⌜ Pair-sound (P·Chip .meaning) (Q·Chip .meaning) (P·Chip .sound) (Q·Chip .sound) (now self) ⌝ }
+        ensures sound { λ _. ⌜ Pair-sound (P·Chip .meaning) (Q·Chip .meaning) (P·Chip .sound) (Q·Chip .sound) (now (self .exit)) ⌝ }
+        ensures rules { λ r. ⌜ Syncs (pair-meaning (P·Chip .meaning) (Q·Chip .meaning) (now (self .entry))) r (pair-meaning (P·Chip .meaning) (Q·Chip .meaning) (now (self .exit))) ⌝ }
+        ensures turn { λ r. ⌜ (now (self .entry) .on ≡ true → In-turn (P·Chip .meaning) (Q·Chip .meaning) Syncs (now (self .entry)) r (now (self .exit))) ⌝ }
+    {
         if !self.on {
             return Err(power_off(0));
         }
-        let answer = self.first.sync();
-        self.report(answer, 0)?;
-        let answer = self.second.sync();
-        self.report(answer, 0)
+        let answer = self.sync_halves();
+        self.on = still_on(&answer);
+        answer
     }
 
-    fn power_on(&mut self) -> Result<(), Fault> {
+    // The first half, then the second, which is not reached if the first loses power.
+    fn power_on(&mut self) -> Result<(), Fault>
+        requires { ⌜ Pair-sound (P·Chip .meaning) (Q·Chip .meaning) (P·Chip .sound) (Q·Chip .sound) (now self) ⌝ }
+        ensures sound { λ _. ⌜ Pair-sound (P·Chip .meaning) (Q·Chip .meaning) (P·Chip .sound) (Q·Chip .sound) (now (self .exit)) ⌝ }
+        ensures rules { λ r. ⌜ Powers (pair-meaning (P·Chip .meaning) (Q·Chip .meaning) (now (self .entry))) r (pair-meaning (P·Chip .meaning) (Q·Chip .meaning) (now (self .exit))) ⌝ }
+        ensures turn { λ r. ⌜ In-turn (P·Chip .meaning) (Q·Chip .meaning) Powers (now (self .entry)) r (now (self .exit)) ⌝ }
+    {
         let answer = self.power_halves();
         self.on = answer.is_ok();
         answer
