@@ -1,23 +1,22 @@
 -- Read, program and erase of a pair, in its first and in its second half.
-use Prim.Native.Nat.{ℕ, _+_, _-_, _*_, _/_, _<_, _≤_}
+use Prim.Native.Nat.{ℕ, _+_, _-_, _<_, _≤_}
 use lib.Dec.{eqb, ltb}
 use lib.ListN.{length}
-use mathlib.Core.Bool.{Bool, true, false, cond}
+use mathlib.Core.Bool.{Bool, true}
 use mathlib.Core.List.{List}
-use mathlib.Core.Logic.{_⊎_, inl, inr, ⊎-elim}
-use mathlib.Core.Path.{_≡_, refl, sym, ap, subst, _∙_}
+use mathlib.Core.Logic.{_⊎_, ⊎-elim}
+use mathlib.Core.Path.{_≡_, refl}
 use native.Mathlib.Omega.{arith}
 use Rattle.std.proofs.shelf.Tests.{lt-ltb, le-ltb, ne-eqb, cases-lt}
 use Rattle.std.specs.declared.result.Result.{Result}
 use Rattle.device.specs.declared.faults.Fault.{Fault}
 use Rattle.device.specs.declared.faults.Refusal.the-variants.{PowerOff}
-use Rattle.device.specs.Cells.{Cell, reads}
-use Rattle.device.specs.Cells.Cell.{settled, unsettled}
+use Rattle.device.specs.Cells.{reads}
 use Rattle.device.specs.Faults.{chip-fault}
-use Rattle.device.specs.Chips.{Note, State, Pages, page-count, block-of, read-at, read-refusal, Reads, program-at, program-refusal, programmed, Programs, erase-refusal, erased, erased-block, Erases}
-use Rattle.device.specs.Chips.State.{blank, held}
+use Rattle.device.specs.Chips.{Note, Pages, page-count, block-of, read-at, read-refusal, Reads, program-at, program-refusal, programmed, Programs, erase-refusal, erased-block, Erases}
+use Rattle.device.specs.Chips.State.{held}
 use Rattle.pair.specs.Halves.{beside, join, Paired, placed-at, keeps-power}
-use Rattle.pair.proofs.Joining.{lit, first-cell, second-cell, half-after, first-call, second-call}
+use Rattle.pair.proofs.Joining.{first-cell, second-cell, first-call, second-call}
 use Rattle.pair.proofs.Refusing.{same-eqb, in-order-lit, page-first, page-second, read-moved, read-lit, program-moved, program-lit, erase-lit, erase-first, erase-second}
 
 -- What a call wants of the pair is what it wants of the half, beside the other half as it is.

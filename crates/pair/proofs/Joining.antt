@@ -12,7 +12,7 @@ use Rattle.std.specs.declared.result.Result.{Result}
 use Rattle.std.specs.declared.result.Result.the-variants.{Ok, Err}
 use Rattle.device.specs.declared.faults.Fault.{Fault}
 use Rattle.device.specs.declared.faults.Refusal.the-variants.{PowerOff}
-use Rattle.device.specs.Cells.{Cell, Meaning, Becomes, Early}
+use Rattle.device.specs.Cells.{Cell, Becomes, Early}
 use Rattle.device.specs.Faults.{chip-fault, refusal-number}
 use Rattle.device.specs.Calls.{Call, Served, Halted}
 use Rattle.device.specs.Chips.{State, Pages, page-count}

@@ -1,5 +1,4 @@
 -- Power-on of a pair: the first half, then the second.
-use Prim.Native.Nat.{ℕ}
 use mathlib.Core.Bool.{Bool, true, false}
 use mathlib.Core.Logic.{_⊎_, inl, inr}
 use mathlib.Core.Path.{_≡_, refl}
@@ -9,8 +8,8 @@ use Rattle.std.specs.Results.{isOk}
 use Rattle.std.specs.declared.result.Result.{Result}
 use Rattle.std.specs.declared.result.Result.the-variants.{Ok, Err}
 use Rattle.device.specs.declared.faults.Fault.{Fault}
-use Rattle.device.specs.Cells.{Cell, Cut}
-use Rattle.device.specs.Chips.{State, Pages, Tears, Powers}
+use Rattle.device.specs.Cells.{Cut}
+use Rattle.device.specs.Chips.{Pages, Tears, Powers}
 use Rattle.pair.specs.declared.pairs.ChipPair.{ChipPair}
 use Rattle.pair.specs.Halves.{join, Paired}
 use Rattle.pair.specs.Pairs.{In-turn}
