@@ -15,6 +15,9 @@ mark-number Dirty = 2
 abbrev pub entry-bytes : Entry → List ℕ
 entry-bytes entry = mark-number (entry .mark) ∷ 0 ∷ 0 ∷ 0 ∷ four-bytes (entry .address .0)
 
+abbrev pub empty-entry : Entry
+empty-entry = record { mark = Empty; address = record { 0 = 0 } }
+
 -- an entry without a mark has the address 0
 abbrev pub Address-fits : Mark → ℕ → Type 0
 Address-fits Empty address = address ≡ 0

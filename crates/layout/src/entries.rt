@@ -1,6 +1,6 @@
 // The entries of the mapping table: for each data page, whether it holds a disk address, and which.
 ghost use mathlib.Core.Path.{_≡_};
-ghost use Rattle.layout.specs.Entries.{mark-number, entry-bytes, Proper-entry};
+ghost use Rattle.layout.specs.Entries.{mark-number, entry-bytes, empty-entry, Proper-entry};
 use crate::cells::Cell;
 use device::DiskAddress;
 
@@ -31,6 +31,18 @@ impl Mark {
     }
 }
 
+impl Entry {
+    // The entry of a page that holds nothing.
+    pub fn empty() -> Entry
+        ensures { λ r. ⌜ r ≡ empty-entry ⌝ }
+    {
+        Entry {
+            mark: Mark::Empty,
+            address: DiskAddress(0),
+        }
+    }
+}
+
 pub impl Cell for Entry as EntryCell {
     ghost bytes = { entry-bytes };
 
@@ -43,10 +55,7 @@ pub impl Cell for Entry as EntryCell {
 
     fn decode(from: &[u8]) -> Option<Entry> {
         match from {
-            [0, 0, 0, 0, 0, 0, 0, 0] => Some(Entry {
-                mark: Mark::Empty,
-                address: DiskAddress(0),
-            }),
+            [0, 0, 0, 0, 0, 0, 0, 0] => Some(Entry::empty()),
             [1, 0, 0, 0, a, b, c, d] => {
                 let address = DiskAddress(u32::from_be_bytes([*a, *b, *c, *d]));
                 Some(Entry {

@@ -1,10 +1,12 @@
 use borrow.Author.Needs.{needs}
 use Prim.Native.Nat.{ℕ}
 use lib.ListN.{length, getD}
-use mathlib.Core.Path.{_≡_, refl}
+use mathlib.Core.Path.{_≡_, refl, sym, subst}
 use native.Mathlib.Omega.{arith}
+use Rattle.std.specs.declared.option.Option.the-variants.{Some}
 use Rattle.layout.specs.declared.entries.Mark.the-variants.{Empty, Clean, Dirty}
-use Rattle.layout.specs.Entries.{entry-bytes, Proper-entry}
+use Rattle.layout.specs.Bytes.{Decodes}
+use Rattle.layout.specs.Entries.{entry-bytes, empty-entry, Proper-entry}
 use Rattle.layout.proofs.Numbers.{decodes-some}
 use Rattle.layout.proofs.Entrywise.{same-entry, entry-read}
 use Rattle.layout.proofs.entries.EntryCell.decode.Needs as need
@@ -21,8 +23,8 @@ returns-in-0 c =
     let h5 : getD xs 5 0 ≡ 0 = search needs in
     let h6 : getD xs 6 0 ≡ 0 = search needs in
     let h7 : getD xs 7 0 ≡ 0 = search needs in
-    decodes-some Proper-entry entry-bytes same-entry xs _ refl
-    (entry-read xs len (λ i. c .typed .from i .fits) h1 h2 h3 0 (omega arith) Empty h0)
+    let t = decodes-some Proper-entry entry-bytes same-entry xs empty-entry refl (entry-read xs len (λ i. c .typed .from i .fits) h1 h2 h3 0 (omega arith) Empty h0) in
+    subst (λ z. Decodes Proper-entry entry-bytes xs (Some z)) (sym (c .empty .ensures)) t
 
 pub returns-in-1 : need.returns-in-1
 returns-in-1 c =
