@@ -1,0 +1,87 @@
+// Cases of a chip: its image before, calls with their answers, and its image afterwards.
+use crate::bytes::fill;
+use crate::calls::Answer;
+use crate::calls::Call;
+use crate::calls::Step;
+use crate::calls::check_steps;
+use image::ImageChip;
+use image::ImageChipChip;
+use std::test::*;
+
+// The bytes of a chip image of two erase blocks.
+pub const TWO_BLOCKS: usize = 8320;
+
+// A frame of a chip image: its page, state, fate, and the tag of its note and data.
+#[derive(Clone, Copy)]
+pub struct Frame(pub u16, pub u8, pub u8, pub u8);
+
+// Frames before and afterwards, of a chip of two erase blocks; every other frame is zero and stays so.
+pub struct Case {
+    pub before: &'static [Frame],
+    pub steps: &'static [Step],
+    pub after: &'static [Frame],
+}
+
+// What one call does to one page: the frame at power-on, a call that is served, the call and its answer, the frame afterwards.
+pub struct Row(pub Frame, pub Call, pub Call, pub Answer, pub Frame);
+
+// Lays a frame into an image, if there is room for it.
+fn lay_frame(image: &mut [u8], frame: &Frame) {
+    let Frame(page, state, fate, tag) = frame;
+    let at = 520 * *page as usize;
+    let rest = 255 - *tag;
+    if at + 520 <= image.len() {
+        let head = [*state, *fate, *tag, rest, 1, *tag, 2, rest];
+        image[at..at + 8].copy_from_slice(&head);
+        fill(&mut image[at + 8..at + 520], *tag);
+    }
+}
+
+// Lays frames into an image.
+pub fn lay(image: &mut [u8], frames: &[Frame]) {
+    for frame in frames {
+        lay_frame(image, frame);
+    }
+}
+
+// Checks every byte of an image in which the frames of `before` stood.
+pub fn check_image(image: &[u8], before: &[Frame], after: &[Frame]) -> Result<(), Fail> {
+    let mut expected = [0; TWO_BLOCKS];
+    lay(&mut expected, before);
+    lay(&mut expected, after);
+    check(image == &expected).note("the image afterwards")
+}
+
+// The steps of a row.
+pub fn steps_of(row: &Row) -> [Step; 3] {
+    let Row(_, setup, call, answer, _) = row;
+    [
+        Step(Call::PowerOn, Answer::Done),
+        Step(*setup, Answer::Done),
+        Step(*call, *answer),
+    ]
+}
+
+// Makes an image chip and takes the steps.
+fn take_steps<'a>(image: &'a mut [u8], fuses: &'a [u32], steps: &[Step]) -> Result<(), Fail> {
+    match ImageChip::new(image, fuses) {
+        Ok(mut chip) => check_steps(&mut chip, steps),
+        Err(_) => Err(Fail::new("no chip was made")),
+    }
+}
+
+// Tries a case over an image chip.
+pub fn try_chip(fuses: &[u32], case: &Case) -> Result<(), Fail> {
+    let mut image = [0; TWO_BLOCKS];
+    lay(&mut image, case.before);
+    take_steps(&mut image, fuses, case.steps)?;
+    check_image(&image, case.before, case.after)
+}
+
+// Tries a row over an image chip.
+pub fn try_chip_row(row: &Row) -> Result<(), Fail> {
+    let mut image = [0; TWO_BLOCKS];
+    lay(&mut image, &[row.0]);
+    take_steps(&mut image, &[], &steps_of(row))?;
+    check_image(&image, &[row.0], &[row.4])
+}
