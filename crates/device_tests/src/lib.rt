@@ -8,4 +8,18 @@ mod calls;
 #[cfg(test)]
 mod chip_cases;
 #[cfg(test)]
+mod chip_fuses;
+#[cfg(test)]
+mod chip_images;
+#[cfg(test)]
+mod disk_calls;
+#[cfg(test)]
+mod disk_cases;
+#[cfg(test)]
+mod disk_images;
+#[cfg(test)]
+mod disk_tables;
+#[cfg(test)]
 mod image_chips;
+#[cfg(test)]
+mod image_disks;
