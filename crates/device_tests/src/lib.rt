@@ -23,3 +23,9 @@ mod disk_tables;
 mod image_chips;
 #[cfg(test)]
 mod image_disks;
+#[cfg(test)]
+mod pair_cases;
+#[cfg(test)]
+mod pair_tables;
+#[cfg(test)]
+mod pairs;
