@@ -25,6 +25,17 @@ fn part_end(first: usize, len: usize) -> usize
     if len - first < 64 { len } else { first + 64 }
 }
 
+// Fills a page with the data of entry page `j` of a table.
+fn put_part(table: &[Entry], j: u8, page: &mut [u8])
+    requires inside { ⌜ 64 * j ≤ length (now table) ⌝ }
+    requires whole { ⌜ length (now page) ≡ 512 ⌝ }
+    ensures { λ _. ⌜ now (page .exit) ≡ entry-data (now (table .entry)) j ⌝ }
+{
+    let first = 64 * j as usize;
+    let end = part_end(first, table.len());
+    put_cells(&table[first..end], page);
+}
+
 // Fills a page with the data of entry page `j` of a table, and answers its note.
 pub fn write_entries(table: &[Entry], j: u8, page: &mut [u8]) -> (u8, u8, u32)
     requires inside { ⌜ 64 * j ≤ length (now table) ⌝ }
@@ -32,9 +43,7 @@ pub fn write_entries(table: &[Entry], j: u8, page: &mut [u8]) -> (u8, u8, u32)
     ensures note { λ r. ⌜ r ≡ entry-note j ⌝ }
     ensures bytes { λ _. ⌜ now (page .exit) ≡ entry-data (now (table .entry)) j ⌝ }
 {
-    let first = 64 * j as usize;
-    let end = part_end(first, table.len());
-    put_cells(&table[first..end], page);
+    put_part(table, j, page);
     (1, j, 0)
 }
 

@@ -27,7 +27,7 @@ fn cell_at<C: Cell>(page: &[u8], k: usize) -> Option<C>
 }
 
 // Fills a page with the values, and zeros after them.
-pub fn put_cells<C: Cell>(cells: &[C], page: &mut [u8])
+pub(crate) fn put_cells<C: Cell>(cells: &[C], page: &mut [u8])
     requires few { ⌜ length (now cells) ≤ 64 ⌝ }
     requires whole { ⌜ length (now page) ≡ 512 ⌝ }
     ensures { λ _. ⌜ now (page .exit) ≡ cells-page (C·Cell .bytes) (now (cells .entry)) ⌝ }
@@ -39,7 +39,7 @@ pub fn put_cells<C: Cell>(cells: &[C], page: &mut [u8])
 }
 
 // Whether a page is zero from a byte on.
-pub fn zero_from(page: &[u8], first: usize) -> bool
+fn zero_from(page: &[u8], first: usize) -> bool
     ensures yes { λ r. ⌜ (r ≡ true → (k : ℕ) → first ≤ k → k < length (now (page .entry)) → getD (now (page .entry)) k 0 ≡ 0) ⌝ }
     ensures no { λ r. ⌜ (r ≡ false → ((k : ℕ) → first ≤ k → k < length (now (page .entry)) → getD (now (page .entry)) k 0 ≡ 0) → ⊥) ⌝ }
 {
@@ -84,7 +84,7 @@ fn holds_cells<C: Cell>(page: &[u8], count: usize) -> bool
 }
 
 // Reads as many values as there is room for, from a page with zeros after them; on any other page it changes nothing.
-pub fn read_cells<C: Cell>(page: &[u8], cells: &mut [C]) -> bool
+pub(crate) fn read_cells<C: Cell>(page: &[u8], cells: &mut [C]) -> bool
     requires few { ⌜ length (now cells) ≤ 64 ⌝ }
     requires whole { ⌜ length (now page) ≡ 512 ⌝ }
     ensures yes { λ r. ⌜ (r ≡ true → All (C·Cell .proper) (now (cells .exit)) × (now (page .entry) ≡ cells-page (C·Cell .bytes) (now (cells .exit)))) ⌝ }
@@ -98,7 +98,7 @@ pub fn read_cells<C: Cell>(page: &[u8], cells: &mut [C]) -> bool
 }
 
 // The one value of a page with zeros after it.
-pub fn read_cell<C: Cell>(page: &[u8]) -> Option<C>
+pub(crate) fn read_cell<C: Cell>(page: &[u8]) -> Option<C>
     requires { ⌜ length (now page) ≡ 512 ⌝ }
     ensures { λ r. ⌜ Decodes (C·Cell .proper) (λ x. cells-page (C·Cell .bytes) (x ∷ [])) (now (page .entry)) r ⌝ }
 {
