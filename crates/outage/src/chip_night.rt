@@ -6,7 +6,7 @@ use crate::alarms::SIX;
 use crate::alarms::THREE;
 use crate::alarms::TWO;
 use crate::chip_steps::ChipStep;
-use crate::chip_steps::take_all;
+use crate::chip_steps::take_chip_steps;
 use crate::fates::CHIP_FRAME;
 use crate::fates::NEW;
 use crate::fates::OLD;
@@ -33,6 +33,10 @@ const FATES: &[(u8, u8)] = &[
 const FUSES: &[u32] = &[8];
 
 const EVENING: &[ChipStep] = &[
+    ChipStep::Say(
+        "What a power cut leaves. Each indented line is a call, its place, and what was answered.",
+    ),
+    ChipStep::Say(""),
     ChipStep::Say("1. A chip: pages 0 to 7 are its erase block 0, pages 8 to 15 its erase block 1"),
     ChipStep::Say(
         "It is made off. A refusal shows its number, layer and place, and then the same in words.",
@@ -44,8 +48,6 @@ const EVENING: &[ChipStep] = &[
     ChipStep::Program(ChipPage(9), TWO),
     ChipStep::Program(ChipPage(10), THREE),
     ChipStep::Sync,
-    ChipStep::Say("A page that holds an alarm takes no other before an erase."),
-    ChipStep::Program(ChipPage(8), FOUR),
     ChipStep::Say(""),
 ];
 
@@ -94,7 +96,9 @@ const MORNING: &[ChipStep] = &[
     ChipStep::Read(ChipPage(8)),
     ChipStep::Read(ChipPage(9)),
     ChipStep::Read(ChipPage(10)),
-    ChipStep::Say("A torn page is not blank, so it too wants an erase."),
+    ChipStep::Say(
+        "A torn page is as little blank as a held one: it takes no program before an erase.",
+    ),
     ChipStep::Program(ChipPage(2), SIX),
     ChipStep::Say(
         "Alarms 4 and 6 are lost; no sync had been served since. They are recorded again.",
@@ -104,7 +108,6 @@ const MORNING: &[ChipStep] = &[
     ChipStep::Sync,
     ChipStep::Say("A second power cut finds nothing unsettled, and changes nothing."),
     ChipStep::PowerOn,
-    ChipStep::Read(ChipPage(1)),
     ChipStep::Read(ChipPage(3)),
     ChipStep::Read(ChipPage(4)),
     ChipStep::Say(""),
@@ -116,9 +119,9 @@ pub fn run(rt: &impl Print) -> io::Result<()> {
     set_fates(&mut image, CHIP_FRAME, FATES);
     match ImageChip::new(&mut image, FUSES) {
         Ok(mut chip) => {
-            take_all(rt, &mut chip, EVENING)?;
-            take_all(rt, &mut chip, NIGHT)?;
-            take_all(rt, &mut chip, MORNING)
+            take_chip_steps(rt, &mut chip, EVENING)?;
+            take_chip_steps(rt, &mut chip, NIGHT)?;
+            take_chip_steps(rt, &mut chip, MORNING)
         }
         Err(unfit) => refused(rt, unfit.fault),
     }

@@ -74,7 +74,7 @@ fn take<C: Chip>(rt: &impl Print, chip: &mut C, step: &ChipStep) -> io::Result<(
 }
 
 // Takes the steps in turn.
-pub fn take_all<C: Chip>(rt: &impl Print, chip: &mut C, steps: &[ChipStep]) -> io::Result<()>
+pub fn take_chip_steps<C: Chip>(rt: &impl Print, chip: &mut C, steps: &[ChipStep]) -> io::Result<()>
     requires { ⌜ C·Chip .sound (now chip) ⌝ }
     ensures sound { λ _. ⌜ C·Chip .sound (now (chip .exit)) ⌝ }
 {

@@ -3,6 +3,8 @@
 // The bytes of a chip's frame and of a disk's.
 pub const CHIP_FRAME: usize = 520;
 
+pub const DISK_FRAME: usize = 1026;
+
 // After a power cut: the state from before, the new one, or (on a chip) torn.
 pub const OLD: u8 = 0;
 
