@@ -15,7 +15,7 @@ use crate::chip_cases::Frame;
 use crate::chip_cases::Row;
 
 // Refusals at the last good place and the first bad one, at 511, 512 and 513 bytes, and where two conditions hold at once.
-pub const EDGES: &[Case] = &[
+pub(super) const EDGES: &[Case] = &[
     // off comes before the size and the place; the number of blocks is told all the same
     Case {
         before: &[Frame(15, 1, 0, 5)],
@@ -130,7 +130,7 @@ pub const EDGES: &[Case] = &[
 ];
 
 // Each state of a page under each call. A page is brought to states 3, 4 and 5 by a program or an erase.
-pub const STATES: &[Row] = &[
+pub(super) const STATES: &[Row] = &[
     // 0, blank
     Row(
         Frame(8, 0, 0, 1),
@@ -365,7 +365,7 @@ pub const STATES: &[Row] = &[
 ];
 
 // Each state in an image by each fate at the first power-on, and what the page then reads.
-pub const FATES: &[Row] = &[
+pub(super) const FATES: &[Row] = &[
     Row(
         Frame(8, 0, 0, 1),
         PowerOn,

@@ -12,7 +12,7 @@ use std::test::*;
 
 // A call. A read has its page and the length of its buffer, a program its page, the number of its bytes and their tag.
 #[derive(Clone, Copy, Debug)]
-pub enum Call {
+pub(super) enum Call {
     Read(u32, usize),
     Program(u32, usize, u8),
     Erase(u32),
@@ -23,7 +23,7 @@ pub enum Call {
 
 // An answer. A refusal has its number, layer and place; a read is known by the tag that it found.
 #[derive(Clone, Copy, PartialEq, Debug)]
-pub enum Answer {
+pub(super) enum Answer {
     Done,
     Found(u8),
     Counted(u32),
@@ -34,15 +34,15 @@ pub enum Answer {
 
 // A call and its answer.
 #[derive(Clone, Copy)]
-pub struct Step(pub Call, pub Answer);
+pub(super) struct Step(pub Call, pub Answer);
 
 // A refusal by its numbers.
-pub fn refused(fault: Fault) -> Answer {
+pub(super) fn refused(fault: Fault) -> Answer {
     Answer::Refused(fault.refusal.number(), fault.layer.number(), fault.place)
 }
 
 // The answer of a call that says no more than that it is done.
-pub fn done(answer: Result<(), Fault>) -> Answer {
+pub(super) fn done(answer: Result<(), Fault>) -> Answer {
     match answer {
         Ok(()) => Answer::Done,
         Err(fault) => refused(fault),
@@ -60,7 +60,7 @@ fn tagged(note: (u8, u8, u32), buf: &[u8]) -> Answer {
 }
 
 // A refusal that left the buffer alone.
-pub fn unread(fault: Fault, buf: &[u8]) -> Answer {
+pub(super) fn unread(fault: Fault, buf: &[u8]) -> Answer {
     if is_untouched(buf) {
         refused(fault)
     } else {
@@ -111,7 +111,7 @@ fn answer_to<C: Chip>(chip: &mut C, call: Call) -> Answer
 }
 
 // Makes the calls in turn and checks every answer.
-pub fn check_steps<C: Chip>(chip: &mut C, steps: &[Step]) -> Result<(), Fail>
+pub(super) fn check_steps<C: Chip>(chip: &mut C, steps: &[Step]) -> Result<(), Fail>
     requires { ⌜ C·Chip .sound (now chip) ⌝ }
     ensures sound { λ _. ⌜ C·Chip .sound (now (chip .exit)) ⌝ }
 {

@@ -9,21 +9,21 @@ use image::ImageChipChip;
 use std::test::*;
 
 // The bytes of a chip image of two erase blocks.
-pub const TWO_BLOCKS: usize = 8320;
+pub(super) const TWO_BLOCKS: usize = 8320;
 
 // A frame of a chip image: its page, state, fate, and the tag of its note and data.
 #[derive(Clone, Copy)]
-pub struct Frame(pub u16, pub u8, pub u8, pub u8);
+pub(super) struct Frame(pub u16, pub u8, pub u8, pub u8);
 
 // Frames before and afterwards, of a chip of two erase blocks; every other frame is zero and stays so.
-pub struct Case {
+pub(super) struct Case {
     pub before: &'static [Frame],
     pub steps: &'static [Step],
     pub after: &'static [Frame],
 }
 
 // What one call does to one page: the frame at power-on, a call that is served, the call and its answer, the frame afterwards.
-pub struct Row(pub Frame, pub Call, pub Call, pub Answer, pub Frame);
+pub(super) struct Row(pub Frame, pub Call, pub Call, pub Answer, pub Frame);
 
 // Lays a frame into an image, if there is room for it.
 fn lay_frame(image: &mut [u8], frame: &Frame) {
@@ -38,14 +38,14 @@ fn lay_frame(image: &mut [u8], frame: &Frame) {
 }
 
 // Lays frames into an image.
-pub fn lay(image: &mut [u8], frames: &[Frame]) {
+pub(super) fn lay(image: &mut [u8], frames: &[Frame]) {
     for frame in frames {
         lay_frame(image, frame);
     }
 }
 
 // Checks every byte of an image in which the frames of `before` stood.
-pub fn check_image(image: &[u8], before: &[Frame], after: &[Frame]) -> Result<(), Fail> {
+pub(super) fn check_image(image: &[u8], before: &[Frame], after: &[Frame]) -> Result<(), Fail> {
     let mut expected = [0; TWO_BLOCKS];
     lay(&mut expected, before);
     lay(&mut expected, after);
@@ -53,7 +53,7 @@ pub fn check_image(image: &[u8], before: &[Frame], after: &[Frame]) -> Result<()
 }
 
 // The steps of a row.
-pub fn steps_of(row: &Row) -> [Step; 3] {
+pub(super) fn steps_of(row: &Row) -> [Step; 3] {
     let Row(_, setup, call, answer, _) = row;
     [
         Step(Call::PowerOn, Answer::Done),
@@ -71,7 +71,7 @@ fn take_steps<'a>(image: &'a mut [u8], fuses: &'a [u32], steps: &[Step]) -> Resu
 }
 
 // Tries a case over an image chip.
-pub fn try_chip(fuses: &[u32], case: &Case) -> Result<(), Fail> {
+pub(super) fn try_chip(fuses: &[u32], case: &Case) -> Result<(), Fail> {
     let mut image = [0; TWO_BLOCKS];
     lay(&mut image, case.before);
     take_steps(&mut image, fuses, case.steps)?;
@@ -79,7 +79,7 @@ pub fn try_chip(fuses: &[u32], case: &Case) -> Result<(), Fail> {
 }
 
 // Tries a row over an image chip.
-pub fn try_chip_row(row: &Row) -> Result<(), Fail> {
+pub(super) fn try_chip_row(row: &Row) -> Result<(), Fail> {
     let mut image = [0; TWO_BLOCKS];
     lay(&mut image, &[row.0]);
     take_steps(&mut image, &[], &steps_of(row))?;

@@ -12,10 +12,10 @@ use crate::chip_cases::Case;
 use crate::chip_cases::Frame;
 
 // A case with the fuses of the chip.
-pub struct Fused(pub &'static [u32], pub Case);
+pub(super) struct Fused(pub &'static [u32], pub Case);
 
 // A fuse of 0 fails the first call that counts, and only one that would be served; none ever fails without a fuse.
-pub const FIRST_FUSE: &[Fused] = &[
+pub(super) const FIRST_FUSE: &[Fused] = &[
     Fused(
         &[],
         Case {
@@ -115,7 +115,7 @@ pub const FIRST_FUSE: &[Fused] = &[
 ];
 
 // What counts, and which power-on has which fuse.
-pub const LATER_FUSES: &[Fused] = &[
+pub(super) const LATER_FUSES: &[Fused] = &[
     // refused calls and reads do not count; programs, erases and syncs do
     Fused(
         &[3],

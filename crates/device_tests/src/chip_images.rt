@@ -12,9 +12,9 @@ use std::alloc::Global;
 use std::test::*;
 
 // The length of an image, some of its bytes (the others are zero), the number of fuses, and what making a chip answers.
-pub struct Image(pub usize, pub &'static [(usize, u8)], pub usize, pub Answer);
+pub(super) struct Image(pub usize, pub &'static [(usize, u8)], pub usize, pub Answer);
 
-pub const IMAGES: &[Image] = &[
+pub(super) const IMAGES: &[Image] = &[
     // lengths: whole erase blocks, 1 to 64 of them
     Image(0, &[], 0, Refused(2, 1, 0)),
     Image(520, &[], 0, Refused(2, 1, 0)),
@@ -49,7 +49,7 @@ pub const IMAGES: &[Image] = &[
 ];
 
 // Sets some bytes of an image.
-pub fn set_bytes(image: &mut [u8], bytes: &[(usize, u8)]) {
+pub(super) fn set_bytes(image: &mut [u8], bytes: &[(usize, u8)]) {
     for (at, byte) in bytes {
         if *at < image.len() {
             image[*at] = *byte;
@@ -66,7 +66,7 @@ fn made<'a>(image: &'a mut [u8], fuses: &'a [u32]) -> Answer {
 }
 
 // Tries an image, which is left untouched in any event.
-pub fn try_image(heap: Global, image: &Image) -> Result<(), Fail> {
+pub(super) fn try_image(heap: Global, image: &Image) -> Result<(), Fail> {
     let Image(len, bytes, fuses, answer) = image;
     let all = [0; 9];
     let mut given = vec![in heap; 0; *len]?;

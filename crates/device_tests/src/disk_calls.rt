@@ -14,7 +14,7 @@ use std::test::*;
 
 // A call. A read has its block and the length of its buffer, a write its block, the number of its bytes and their tag.
 #[derive(Clone, Copy, Debug)]
-pub enum DiskCall {
+pub(super) enum DiskCall {
     Read(u32, usize),
     Write(u32, usize, u8),
     Sync,
@@ -24,7 +24,7 @@ pub enum DiskCall {
 
 // A call and its answer.
 #[derive(Clone, Copy)]
-pub struct DiskStep(pub DiskCall, pub Answer);
+pub(super) struct DiskStep(pub DiskCall, pub Answer);
 
 // The answer of a read: the tag that its first byte gives, if the others agree.
 fn found(answer: Result<(), Fault>, buf: &[u8]) -> Answer {
@@ -71,7 +71,7 @@ fn answer_to<D: Disk>(disk: &mut D, call: DiskCall) -> Answer
 }
 
 // Makes the calls in turn and checks every answer.
-pub fn check_disk_steps<D: Disk>(disk: &mut D, steps: &[DiskStep]) -> Result<(), Fail>
+pub(super) fn check_disk_steps<D: Disk>(disk: &mut D, steps: &[DiskStep]) -> Result<(), Fail>
     requires { ⌜ D·Disk .sound (now disk) ⌝ }
     ensures sound { λ _. ⌜ D·Disk .sound (now (disk .exit)) ⌝ }
 {

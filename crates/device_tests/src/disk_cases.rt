@@ -13,10 +13,10 @@ const THREE_BLOCKS: usize = 3078;
 
 // A frame of a disk image: its block, state, fate, and the tags of its settled and of its new content.
 #[derive(Clone, Copy)]
-pub struct DiskFrame(pub u8, pub u8, pub u8, pub u8, pub u8);
+pub(super) struct DiskFrame(pub u8, pub u8, pub u8, pub u8, pub u8);
 
 // Frames before and afterwards, of a disk of three blocks; every other frame is zero and stays so.
-pub struct DiskCase {
+pub(super) struct DiskCase {
     pub fuses: &'static [u32],
     pub before: &'static [DiskFrame],
     pub steps: &'static [DiskStep],
@@ -24,7 +24,7 @@ pub struct DiskCase {
 }
 
 // What one call does to one block: the frame at power-on, a call that is served, the call and its answer, the frame afterwards.
-pub struct DiskRow(
+pub(super) struct DiskRow(
     pub DiskFrame,
     pub DiskCall,
     pub DiskCall,
@@ -68,7 +68,7 @@ fn take_steps<'a>(image: &'a mut [u8], fuses: &'a [u32], steps: &[DiskStep]) -> 
 }
 
 // Tries a case.
-pub fn try_disk(case: &DiskCase) -> Result<(), Fail> {
+pub(super) fn try_disk(case: &DiskCase) -> Result<(), Fail> {
     let mut image = [0; THREE_BLOCKS];
     lay(&mut image, case.before);
     take_steps(&mut image, case.fuses, case.steps)?;
@@ -76,7 +76,7 @@ pub fn try_disk(case: &DiskCase) -> Result<(), Fail> {
 }
 
 // Tries a row.
-pub fn try_disk_row(row: &DiskRow) -> Result<(), Fail> {
+pub(super) fn try_disk_row(row: &DiskRow) -> Result<(), Fail> {
     let DiskRow(before, setup, call, answer, after) = row;
     let steps = [
         DiskStep(DiskCall::PowerOn, Answer::Done),

@@ -13,7 +13,7 @@ use image::ImageDiskDisk;
 use std::alloc::Global;
 use std::test::*;
 
-pub const DISK_IMAGES: &[Image] = &[
+pub(super) const DISK_IMAGES: &[Image] = &[
     // lengths: whole frames, 1 to 65,536 of them
     Image(0, &[], 0, Refused(2, 3, 0)),
     Image(1025, &[], 0, Refused(2, 3, 0)),
@@ -53,7 +53,7 @@ fn made<'a>(image: &'a mut [u8], fuses: &'a [u32]) -> Answer {
 }
 
 // Tries an image, which is left untouched in any event.
-pub fn try_disk_image(heap: Global, image: &Image) -> Result<(), Fail> {
+pub(super) fn try_disk_image(heap: Global, image: &Image) -> Result<(), Fail> {
     let Image(len, bytes, fuses, answer) = image;
     let all = [0; 9];
     let mut given = vec![in heap; 0; *len]?;

@@ -14,7 +14,7 @@ use crate::disk_cases::DiskFrame;
 use crate::disk_cases::DiskRow;
 
 // Refusals at the last good block and the first bad one, at 511, 512 and 513 bytes, and where two conditions hold at once.
-pub const DISK_EDGES: &[DiskCase] = &[
+pub(super) const DISK_EDGES: &[DiskCase] = &[
     // off comes before the size and the place; the number of blocks is told all the same
     DiskCase {
         fuses: &[],
@@ -71,7 +71,7 @@ pub const DISK_EDGES: &[DiskCase] = &[
 ];
 
 // Each state of a block under each call. A block is brought to state 1 by a write.
-pub const DISK_STATES: &[DiskRow] = &[
+pub(super) const DISK_STATES: &[DiskRow] = &[
     // 0, settled
     DiskRow(
         DiskFrame(1, 0, 0, 1, 2),
@@ -154,7 +154,7 @@ pub const DISK_STATES: &[DiskRow] = &[
 ];
 
 // Each state in an image by each fate at the first power-on, and what the block then reads.
-pub const DISK_FATES: &[DiskRow] = &[
+pub(super) const DISK_FATES: &[DiskRow] = &[
     DiskRow(
         DiskFrame(1, 0, 0, 1, 2),
         PowerOn,
@@ -214,7 +214,7 @@ pub const DISK_FATES: &[DiskRow] = &[
 ];
 
 // Fuses: what counts, where power fails, and which power-on has which.
-pub const DISK_FUSES: &[DiskCase] = &[
+pub(super) const DISK_FUSES: &[DiskCase] = &[
     // none ever fails without a fuse
     DiskCase {
         fuses: &[],

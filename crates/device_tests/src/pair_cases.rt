@@ -23,7 +23,7 @@ use std::test::*;
 const BLOCK: usize = 4160;
 
 // The erase blocks of two chips, what joining them answers, and steps of the pair.
-pub struct Joined(pub u8, pub u8, pub Answer, pub &'static [Step]);
+pub(super) struct Joined(pub u8, pub u8, pub Answer, pub &'static [Step]);
 
 // Joins two chips, checks the answer, and takes the steps.
 fn join<P: Chip + Drop, Q: Chip + Drop>(
@@ -99,7 +99,7 @@ fn take_steps<'a>(
 }
 
 // Tries a case over a pair.
-pub fn try_pair(fuses: &[u32], others: &[u32], case: &Case) -> Result<(), Fail> {
+pub(super) fn try_pair(fuses: &[u32], others: &[u32], case: &Case) -> Result<(), Fail> {
     let mut image = [0; TWO_BLOCKS];
     lay(&mut image, case.before);
     take_steps(&mut image, fuses, others, case.steps)?;
@@ -107,7 +107,7 @@ pub fn try_pair(fuses: &[u32], others: &[u32], case: &Case) -> Result<(), Fail> 
 }
 
 // Tries a row over a pair.
-pub fn try_pair_row(row: &Row) -> Result<(), Fail> {
+pub(super) fn try_pair_row(row: &Row) -> Result<(), Fail> {
     let mut image = [0; TWO_BLOCKS];
     lay(&mut image, &[row.0]);
     take_steps(&mut image, &[], &[], &steps_of(row))?;
@@ -115,7 +115,7 @@ pub fn try_pair_row(row: &Row) -> Result<(), Fail> {
 }
 
 // Tries to join two chips.
-pub fn try_joined(heap: Global, joined: &Joined) -> Result<(), Fail> {
+pub(super) fn try_joined(heap: Global, joined: &Joined) -> Result<(), Fail> {
     let Joined(blocks, others, answer, steps) = joined;
     let mut first = vec![in heap; 0; BLOCK * *blocks as usize]?;
     let mut second = vec![in heap; 0; BLOCK * *others as usize]?;
@@ -130,7 +130,7 @@ pub fn try_joined(heap: Global, joined: &Joined) -> Result<(), Fail> {
 }
 
 // Tries to join two chips that are on.
-pub fn try_powered(steps: &[Step]) -> Result<(), Fail> {
+pub(super) fn try_powered(steps: &[Step]) -> Result<(), Fail> {
     let mut first = [0; BLOCK];
     let mut second = [0; BLOCK];
     join_powered(&mut first, &mut second, steps)

@@ -15,10 +15,10 @@ use crate::chip_cases::Frame;
 use crate::pair_cases::Joined;
 
 // A case with the fuses of the first chip and of the second.
-pub struct PairFused(pub &'static [u32], pub &'static [u32], pub Case);
+pub(super) struct PairFused(pub &'static [u32], pub &'static [u32], pub Case);
 
 // A pair is made off, whatever its chips are.
-pub const MADE_OFF: &[Step] = &[
+pub(super) const MADE_OFF: &[Step] = &[
     Step(Read(8, 512), Refused(1, 1, 8)),
     Step(Program(7, 512, 1), Refused(1, 1, 7)),
     Step(Erase(1), Refused(1, 1, 1)),
@@ -29,7 +29,7 @@ pub const MADE_OFF: &[Step] = &[
 ];
 
 // Up to 64 erase blocks; places run on where the chips meet.
-pub const SEAMS: &[Joined] = &[
+pub(super) const SEAMS: &[Joined] = &[
     // the last page of the first chip is 7, and 24 is the first page that is not there
     Joined(
         1,
@@ -123,7 +123,7 @@ pub const SEAMS: &[Joined] = &[
 ];
 
 // Power failing in a program or an erase of either chip: the pair is off as a whole, and names its own place.
-pub const PAIR_CALLS: &[PairFused] = &[
+pub(super) const PAIR_CALLS: &[PairFused] = &[
     PairFused(
         &[0],
         &[],
@@ -207,7 +207,7 @@ pub const PAIR_CALLS: &[PairFused] = &[
 ];
 
 // Power failing in a sync, and the power-on after it.
-pub const PAIR_SYNCS: &[PairFused] = &[
+pub(super) const PAIR_SYNCS: &[PairFused] = &[
     // in the first chip: the second is not reached
     PairFused(
         &[1],

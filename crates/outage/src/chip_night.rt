@@ -114,7 +114,7 @@ const MORNING: &[ChipStep] = &[
 ];
 
 // Records, loses power, and records again what was lost.
-pub fn run(rt: &impl Print) -> io::Result<()> {
+pub(super) fn run(rt: &impl Print) -> io::Result<()> {
     let mut image = [0; 8320];
     set_fates(&mut image, CHIP_FRAME, FATES);
     match ImageChip::new(&mut image, FUSES) {

@@ -12,7 +12,7 @@ use device::EraseBlock;
 use std::io;
 
 // One line of a run: something to say, or a call.
-pub enum ChipStep {
+pub(super) enum ChipStep {
     Say(&'static str),
     Program(ChipPage, Alarm),
     Erase(EraseBlock),
@@ -74,7 +74,11 @@ fn take<C: Chip>(rt: &impl Print, chip: &mut C, step: &ChipStep) -> io::Result<(
 }
 
 // Takes the steps in turn.
-pub fn take_chip_steps<C: Chip>(rt: &impl Print, chip: &mut C, steps: &[ChipStep]) -> io::Result<()>
+pub(super) fn take_chip_steps<C: Chip>(
+    rt: &impl Print,
+    chip: &mut C,
+    steps: &[ChipStep],
+) -> io::Result<()>
     requires { ⌜ C·Chip .sound (now chip) ⌝ }
     ensures sound { λ _. ⌜ C·Chip .sound (now (chip .exit)) ⌝ }
 {

@@ -49,7 +49,7 @@ const STEPS: &[DiskStep] = &[
 ];
 
 // Writes, loses power, and writes again what was lost.
-pub fn run(rt: &impl Print) -> io::Result<()> {
+pub(super) fn run(rt: &impl Print) -> io::Result<()> {
     let mut image = [0; 4104];
     set_fates(&mut image, DISK_FRAME, FATES);
     match ImageDisk::new(&mut image, FUSES) {

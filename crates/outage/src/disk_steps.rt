@@ -10,7 +10,7 @@ use device::DiskAddress;
 use std::io;
 
 // One line of a run: something to say, or a call.
-pub enum DiskStep {
+pub(super) enum DiskStep {
     Say(&'static str),
     Write(DiskAddress, &'static str),
     Sync,
@@ -65,7 +65,11 @@ fn take<D: Disk>(rt: &impl Print, disk: &mut D, step: &DiskStep) -> io::Result<(
 }
 
 // Takes the steps in turn.
-pub fn take_disk_steps<D: Disk>(rt: &impl Print, disk: &mut D, steps: &[DiskStep]) -> io::Result<()>
+pub(super) fn take_disk_steps<D: Disk>(
+    rt: &impl Print,
+    disk: &mut D,
+    steps: &[DiskStep],
+) -> io::Result<()>
     requires { ⌜ D·Disk .sound (now disk) ⌝ }
     ensures sound { λ _. ⌜ D·Disk .sound (now (disk .exit)) ⌝ }
 {

@@ -6,17 +6,17 @@ use device::RefusalDisplay;
 use std::io;
 
 // The beginning of a line: a call, and the place that it is given.
-pub fn called_at(rt: &impl Print, call: &str, place: u32) -> io::Result<()> {
+pub(super) fn called_at(rt: &impl Print, call: &str, place: u32) -> io::Result<()> {
     print!(rt, "  {call:<8} {place:>2}  ")
 }
 
 // The same of a call that is given no place.
-pub fn called(rt: &impl Print, call: &str) -> io::Result<()> {
+pub(super) fn called(rt: &impl Print, call: &str) -> io::Result<()> {
     print!(rt, "  {call:<8}     ")
 }
 
 // The end of a line: a refusal by its three numbers, and in words.
-pub fn refused(rt: &impl Print, fault: Fault) -> io::Result<()> {
+pub(super) fn refused(rt: &impl Print, fault: Fault) -> io::Result<()> {
     let refusal = fault.refusal;
     let layer = fault.layer;
     let place = fault.place;
@@ -24,7 +24,7 @@ pub fn refused(rt: &impl Print, fault: Fault) -> io::Result<()> {
 }
 
 // The end of a line: the answer of a call that answers nothing else.
-pub fn answered(rt: &impl Print, answer: Result<(), Fault>) -> io::Result<()> {
+pub(super) fn answered(rt: &impl Print, answer: Result<(), Fault>) -> io::Result<()> {
     match answer {
         Ok(()) => println!(rt, "served"),
         Err(fault) => refused(rt, fault),

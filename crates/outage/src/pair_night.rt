@@ -62,7 +62,7 @@ fn join<P: Chip + Drop, Q: Chip + Drop>(rt: &impl Print, first: P, second: Q) ->
 }
 
 // Records on both chips, loses power in one, and records again what was lost.
-pub fn run(rt: &impl Print) -> io::Result<()> {
+pub(super) fn run(rt: &impl Print) -> io::Result<()> {
     let mut image = [0; 4160];
     let mut other = [0; 8320];
     match ImageChip::new(&mut image, FIRST) {
