@@ -2,6 +2,8 @@
 use Prim.Native.Nat.{ℕ, _<_}
 use mathlib.Core.List.{List, _∷_}
 use mathlib.Core.Path.{_≡_}
+use Rattle.std.specs.declared.option.Option.{Option}
+use Rattle.std.specs.declared.option.Option.the-variants.{Some, None}
 use Rattle.layout.specs.declared.entries.Entry.{Entry}
 use Rattle.layout.specs.declared.entries.Mark.{Mark}
 use Rattle.layout.specs.declared.entries.Mark.the-variants.{Empty, Clean, Dirty}
@@ -26,3 +28,8 @@ Address-fits Dirty address = address < 4294967296
 
 abbrev pub Proper-entry : Entry → Type 0
 Proper-entry entry = Address-fits (entry .mark) (entry .address .0)
+
+-- the proper entry with this mark's number and this address, or that there is none
+abbrev pub Entry-of : ℕ → ℕ → Option Entry → Type 0
+Entry-of mark address (Some e) = (mark-number (e .mark) ≡ mark) × (e .address .0 ≡ address) × Proper-entry e
+Entry-of mark address None = (y : Entry) → Proper-entry y → mark-number (y .mark) ≡ mark → y .address .0 ≡ address → ⊥

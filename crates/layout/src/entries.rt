@@ -1,6 +1,6 @@
 // The entries of the mapping table: for each data page, whether it holds a disk address, and which.
 ghost use mathlib.Core.Path.{_≡_};
-ghost use Rattle.layout.specs.Entries.{mark-number, entry-bytes, empty-entry, Proper-entry};
+ghost use Rattle.layout.specs.Entries.{mark-number, entry-bytes, empty-entry, Proper-entry, Entry-of};
 use crate::cells::Cell;
 use device::DiskAddress;
 
@@ -55,22 +55,29 @@ pub impl Cell for Entry as EntryCell {
 
     fn decode(from: &[u8]) -> Option<Entry> {
         match from {
-            [0, 0, 0, 0, 0, 0, 0, 0] => Some(Entry::empty()),
-            [1, 0, 0, 0, a, b, c, d] => {
-                let address = DiskAddress(u32::from_be_bytes([*a, *b, *c, *d]));
-                Some(Entry {
-                    mark: Mark::Clean,
-                    address,
-                })
-            }
-            [2, 0, 0, 0, a, b, c, d] => {
-                let address = DiskAddress(u32::from_be_bytes([*a, *b, *c, *d]));
-                Some(Entry {
-                    mark: Mark::Dirty,
-                    address,
-                })
-            }
+            [mark, 0, 0, 0, a, b, c, d] => entry_of(
+                *mark,
+                DiskAddress(u32::from_be_bytes([*a, *b, *c, *d])),
+            ),
             _ => None,
         }
+    }
+}
+
+// The entry with a mark of this number and this address, if there is one.
+fn entry_of(mark: u8, address: DiskAddress) -> Option<Entry>
+    ensures { λ r. ⌜ Entry-of mark (address .0) r ⌝ }
+{
+    match mark {
+        0 if address.0 == 0 => Some(Entry::empty()),
+        1 => Some(Entry {
+            mark: Mark::Clean,
+            address,
+        }),
+        2 => Some(Entry {
+            mark: Mark::Dirty,
+            address,
+        }),
+        _ => None,
     }
 }

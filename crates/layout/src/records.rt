@@ -52,18 +52,14 @@ pub impl Cell for Record as RecordCell {
                     Some(Record::PutDirty(page, address))
                 }
             }
-            [3, 0, 0, 0, a, b, c, d] => Some(Record::Drop(DiskAddress(u32::from_be_bytes([
-                *a,
-                *b,
-                *c,
-                *d,
-            ])))),
-            [4, 0, 0, 0, a, b, c, d] => Some(Record::MarkClean(DiskAddress(u32::from_be_bytes([
-                *a,
-                *b,
-                *c,
-                *d,
-            ])))),
+            [kind, 0, 0, 0, a, b, c, d] if *kind == 3 || *kind == 4 => {
+                let address = DiskAddress(u32::from_be_bytes([*a, *b, *c, *d]));
+                if *kind == 3 {
+                    Some(Record::Drop(address))
+                } else {
+                    Some(Record::MarkClean(address))
+                }
+            }
             _ => None,
         }
     }

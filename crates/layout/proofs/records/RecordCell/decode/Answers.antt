@@ -24,24 +24,24 @@ returns-else-kind-eq1-2 c =
     decodes-some Proper-record record-bytes same-record xs _ (c .from-be-bytes .ok, c .from-be-bytes-in-0 .ok)
     (put-read xs len (λ i. c .typed .from i .fits) 2 h0 h1 (c .from-be-bytes-in-0 .result) (c .from-be-bytes-in-0 .ensures) (c .from-be-bytes .result) (c .from-be-bytes .ensures))
 
-pub returns-in-3 : need.returns-in-3
-returns-in-3 c =
+pub returns-then-kind-eq3-2 : need.returns-then-kind-eq3-2
+returns-then-kind-eq3-2 c =
     let xs = c .args .from .now in
     let len : length xs ≡ 8 = search needs in
     let h0 : getD xs 0 0 ≡ 3 = search needs in
     let h1 : getD xs 1 0 ≡ 0 = search needs in
     let h2 : getD xs 2 0 ≡ 0 = search needs in
     let h3 : getD xs 3 0 ≡ 0 = search needs in
-    decodes-some Proper-record record-bytes same-record xs _ (c .from-be-bytes-in-3 .ok)
-    (drop-read xs len (λ i. c .typed .from i .fits) 3 h0 h1 (c .from-be-bytes-in-3 .result) (c .from-be-bytes-in-3 .ensures) h2 h3)
+    decodes-some Proper-record record-bytes same-record xs _ (c .from-be-bytes-in-0-2 .ok)
+    (drop-read xs len (λ i. c .typed .from i .fits) 3 h0 h1 (c .from-be-bytes-in-0-2 .result) (c .from-be-bytes-in-0-2 .ensures) h2 h3)
 
-pub returns-in-4 : need.returns-in-4
-returns-in-4 c =
+pub returns-else-kind-eq3-2 : need.returns-else-kind-eq3-2
+returns-else-kind-eq3-2 c =
     let xs = c .args .from .now in
     let len : length xs ≡ 8 = search needs in
     let h0 : getD xs 0 0 ≡ 4 = search needs in
     let h1 : getD xs 1 0 ≡ 0 = search needs in
     let h2 : getD xs 2 0 ≡ 0 = search needs in
     let h3 : getD xs 3 0 ≡ 0 = search needs in
-    decodes-some Proper-record record-bytes same-record xs _ (c .from-be-bytes-in-4 .ok)
-    (drop-read xs len (λ i. c .typed .from i .fits) 4 h0 h1 (c .from-be-bytes-in-4 .result) (c .from-be-bytes-in-4 .ensures) h2 h3)
+    decodes-some Proper-record record-bytes same-record xs _ (c .from-be-bytes-in-0-2 .ok)
+    (drop-read xs len (λ i. c .typed .from i .fits) 4 h0 h1 (c .from-be-bytes-in-0-2 .result) (c .from-be-bytes-in-0-2 .ensures) h2 h3)
