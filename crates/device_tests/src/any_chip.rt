@@ -15,9 +15,11 @@ use crate::chip_cases::Frame;
 use crate::chip_cases::Row;
 
 // Refusals at the last good place and the first bad one, at 511, 512 and 513 bytes, and where two conditions hold at once.
-pub(super) const EDGES: &[Case] = &[
+pub(super) const EDGES: &[Case<'static>] = &[
     // off comes before the size and the place; the number of blocks is told all the same
     Case {
+        fuses: &[],
+        others: &[],
         before: &[Frame(15, 1, 0, 5)],
         steps: &[
             Step(Read(15, 512), Refused(1, 1, 15)),
@@ -36,6 +38,8 @@ pub(super) const EDGES: &[Case] = &[
     },
     // reads: size before place, both before torn and blank
     Case {
+        fuses: &[],
+        others: &[],
         before: &[Frame(0, 1, 0, 3), Frame(14, 2, 0, 6), Frame(15, 1, 0, 5)],
         steps: &[
             Step(PowerOn, Done),
@@ -56,6 +60,8 @@ pub(super) const EDGES: &[Case] = &[
     },
     // programs: size before place, both before unsettled and not blank
     Case {
+        fuses: &[],
+        others: &[],
         before: &[Frame(13, 2, 0, 7), Frame(14, 1, 0, 6)],
         steps: &[
             Step(PowerOn, Done),
@@ -77,6 +83,8 @@ pub(super) const EDGES: &[Case] = &[
     },
     // erases: the last block and the first that is not there; a block twice
     Case {
+        fuses: &[],
+        others: &[],
         before: &[Frame(7, 1, 0, 3), Frame(8, 1, 0, 1), Frame(15, 2, 0, 2)],
         steps: &[
             Step(PowerOn, Done),
@@ -89,6 +97,8 @@ pub(super) const EDGES: &[Case] = &[
     },
     // an erase with its last page unsettled; blank pages are not changed by one, so a second is served too
     Case {
+        fuses: &[],
+        others: &[],
         before: &[],
         steps: &[
             Step(PowerOn, Done),
@@ -101,6 +111,8 @@ pub(super) const EDGES: &[Case] = &[
     },
     // an erase with its first page unsettled; a page settled again is erased
     Case {
+        fuses: &[],
+        others: &[],
         before: &[Frame(9, 1, 7, 4)],
         steps: &[
             Step(PowerOn, Done),
@@ -113,6 +125,8 @@ pub(super) const EDGES: &[Case] = &[
     },
     // a page's life: programmed, settled, erased, settled, programmed again
     Case {
+        fuses: &[],
+        others: &[],
         before: &[],
         steps: &[
             Step(PowerOn, Done),
@@ -130,7 +144,7 @@ pub(super) const EDGES: &[Case] = &[
 ];
 
 // Each state of a page under each call. A page is brought to states 3, 4 and 5 by a program or an erase.
-pub(super) const STATES: &[Row] = &[
+pub(super) const ROWS: &[Row] = &[
     // 0, blank
     Row(
         Frame(8, 0, 0, 1),
@@ -362,10 +376,7 @@ pub(super) const STATES: &[Row] = &[
         Done,
         Frame(8, 2, 255, 1),
     ),
-];
-
-// Each state in an image by each fate at the first power-on, and what the page then reads.
-pub(super) const FATES: &[Row] = &[
+    // each state in an image by each fate at the first power-on, and what the page then reads
     Row(
         Frame(8, 0, 0, 1),
         PowerOn,

@@ -11,7 +11,7 @@ use device::Fault;
 use std::test::*;
 
 // A call. A read has its page and the length of its buffer, a program its page, the number of its bytes and their tag.
-#[derive(Clone, Copy, Debug)]
+#[derive(Clone, Copy)]
 pub(super) enum Call {
     Read(u32, usize),
     Program(u32, usize, u8),
@@ -115,8 +115,9 @@ pub(super) fn check_steps<C: Chip>(chip: &mut C, steps: &[Step]) -> Result<(), F
     requires { ⌜ C·Chip .sound (now chip) ⌝ }
     ensures sound { λ _. ⌜ C·Chip .sound (now (chip .exit)) ⌝ }
 {
-    for Step(call, answer) in steps {
-        check_eq(answer_to(chip, *call), *answer).note(format_args!("{call:?}"))?;
+    for k in 0..steps.len() {
+        let Step(call, answer) = steps[k];
+        check_eq(answer_to(chip, call), answer).note(format_args!("step {k}"))?;
     }
     Ok(())
 }

@@ -15,51 +15,46 @@ pub(super) const TWO_BLOCKS: usize = 8320;
 #[derive(Clone, Copy)]
 pub(super) struct Frame(pub u16, pub u8, pub u8, pub u8);
 
-// Frames before and afterwards, of a chip of two erase blocks; every other frame is zero and stays so.
-pub(super) struct Case {
-    pub before: &'static [Frame],
-    pub steps: &'static [Step],
-    pub after: &'static [Frame],
+// A chip of two erase blocks: its fuses (a pair's first chip has them, and its second the others), its frames before, calls
+// with their answers, and its frames afterwards. A frame that is not named is zero, and one that is not named afterwards
+// stays as it was.
+#[derive(Clone, Copy)]
+pub(super) struct Case<'a> {
+    pub fuses: &'a [u32],
+    pub others: &'a [u32],
+    pub before: &'a [Frame],
+    pub steps: &'a [Step],
+    pub after: &'a [Frame],
 }
 
 // What one call does to one page: the frame at power-on, a call that is served, the call and its answer, the frame afterwards.
 pub(super) struct Row(pub Frame, pub Call, pub Call, pub Answer, pub Frame);
 
 // Lays a frame into an image, if there is room for it.
-fn lay_frame(image: &mut [u8], frame: &Frame) {
+fn lay_frame(image: &mut [u8], frame: Frame) {
     let Frame(page, state, fate, tag) = frame;
-    let at = 520 * *page as usize;
-    let rest = 255 - *tag;
+    let at = 520 * page as usize;
+    let rest = 255 - tag;
     if at + 520 <= image.len() {
-        let head = [*state, *fate, *tag, rest, 1, *tag, 2, rest];
+        let head = [state, fate, tag, rest, 1, tag, 2, rest];
         image[at..at + 8].copy_from_slice(&head);
-        fill(&mut image[at + 8..at + 520], *tag);
+        fill(&mut image[at + 8..at + 520], tag);
     }
 }
 
 // Lays frames into an image.
 pub(super) fn lay(image: &mut [u8], frames: &[Frame]) {
     for frame in frames {
-        lay_frame(image, frame);
+        lay_frame(image, *frame);
     }
 }
 
-// Checks every byte of an image in which the frames of `before` stood.
-pub(super) fn check_image(image: &[u8], before: &[Frame], after: &[Frame]) -> Result<(), Fail> {
+// Checks every byte of the image afterwards.
+pub(super) fn check_image(image: &[u8], case: &Case) -> Result<(), Fail> {
     let mut expected = [0; TWO_BLOCKS];
-    lay(&mut expected, before);
-    lay(&mut expected, after);
+    lay(&mut expected, case.before);
+    lay(&mut expected, case.after);
     check(image == &expected).note("the image afterwards")
-}
-
-// The steps of a row.
-pub(super) fn steps_of(row: &Row) -> [Step; 3] {
-    let Row(_, setup, call, answer, _) = row;
-    [
-        Step(Call::PowerOn, Answer::Done),
-        Step(*setup, Answer::Done),
-        Step(*call, *answer),
-    ]
 }
 
 // Makes an image chip and takes the steps.
@@ -71,17 +66,9 @@ fn take_steps<'a>(image: &'a mut [u8], fuses: &'a [u32], steps: &[Step]) -> Resu
 }
 
 // Tries a case over an image chip.
-pub(super) fn try_chip(fuses: &[u32], case: &Case) -> Result<(), Fail> {
+pub(super) fn try_chip(case: &Case) -> Result<(), Fail> {
     let mut image = [0; TWO_BLOCKS];
     lay(&mut image, case.before);
-    take_steps(&mut image, fuses, case.steps)?;
-    check_image(&image, case.before, case.after)
-}
-
-// Tries a row over an image chip.
-pub(super) fn try_chip_row(row: &Row) -> Result<(), Fail> {
-    let mut image = [0; TWO_BLOCKS];
-    lay(&mut image, &[row.0]);
-    take_steps(&mut image, &[], &steps_of(row))?;
-    check_image(&image, &[row.0], &[row.4])
+    take_steps(&mut image, case.fuses, case.steps)?;
+    check_image(&image, case)
 }

@@ -13,7 +13,7 @@ use device::Fault;
 use std::test::*;
 
 // A call. A read has its block and the length of its buffer, a write its block, the number of its bytes and their tag.
-#[derive(Clone, Copy, Debug)]
+#[derive(Clone, Copy)]
 pub(super) enum DiskCall {
     Read(u32, usize),
     Write(u32, usize, u8),
@@ -75,8 +75,9 @@ pub(super) fn check_disk_steps<D: Disk>(disk: &mut D, steps: &[DiskStep]) -> Res
     requires { ⌜ D·Disk .sound (now disk) ⌝ }
     ensures sound { λ _. ⌜ D·Disk .sound (now (disk .exit)) ⌝ }
 {
-    for DiskStep(call, answer) in steps {
-        check_eq(answer_to(disk, *call), *answer).note(format_args!("{call:?}"))?;
+    for k in 0..steps.len() {
+        let DiskStep(call, answer) = steps[k];
+        check_eq(answer_to(disk, call), answer).note(format_args!("step {k}"))?;
     }
     Ok(())
 }

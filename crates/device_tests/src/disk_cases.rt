@@ -15,12 +15,14 @@ const THREE_BLOCKS: usize = 3078;
 #[derive(Clone, Copy)]
 pub(super) struct DiskFrame(pub u8, pub u8, pub u8, pub u8, pub u8);
 
-// Frames before and afterwards, of a disk of three blocks; every other frame is zero and stays so.
-pub(super) struct DiskCase {
-    pub fuses: &'static [u32],
-    pub before: &'static [DiskFrame],
-    pub steps: &'static [DiskStep],
-    pub after: &'static [DiskFrame],
+// A disk of three blocks: its fuses, its frames before, calls with their answers, and its frames afterwards. A frame that
+// is not named is zero, and one that is not named afterwards stays as it was.
+#[derive(Clone, Copy)]
+pub(super) struct DiskCase<'a> {
+    pub fuses: &'a [u32],
+    pub before: &'a [DiskFrame],
+    pub steps: &'a [DiskStep],
+    pub after: &'a [DiskFrame],
 }
 
 // What one call does to one block: the frame at power-on, a call that is served, the call and its answer, the frame afterwards.
@@ -33,29 +35,29 @@ pub(super) struct DiskRow(
 );
 
 // Lays a frame into an image, if there is room for it.
-fn lay_frame(image: &mut [u8], frame: &DiskFrame) {
+fn lay_frame(image: &mut [u8], frame: DiskFrame) {
     let DiskFrame(block, state, fate, settled, new) = frame;
-    let at = 1026 * *block as usize;
+    let at = 1026 * block as usize;
     if at + 1026 <= image.len() {
-        image[at] = *state;
-        image[at + 1] = *fate;
-        fill(&mut image[at + 2..at + 514], *settled);
-        fill(&mut image[at + 514..at + 1026], *new);
+        image[at] = state;
+        image[at + 1] = fate;
+        fill(&mut image[at + 2..at + 514], settled);
+        fill(&mut image[at + 514..at + 1026], new);
     }
 }
 
 // Lays frames into an image.
 fn lay(image: &mut [u8], frames: &[DiskFrame]) {
     for frame in frames {
-        lay_frame(image, frame);
+        lay_frame(image, *frame);
     }
 }
 
-// Checks every byte of an image in which the frames of `before` stood.
-fn check_image(image: &[u8], before: &[DiskFrame], after: &[DiskFrame]) -> Result<(), Fail> {
+// Checks every byte of the image afterwards.
+fn check_image(image: &[u8], case: &DiskCase) -> Result<(), Fail> {
     let mut expected = [0; THREE_BLOCKS];
-    lay(&mut expected, before);
-    lay(&mut expected, after);
+    lay(&mut expected, case.before);
+    lay(&mut expected, case.after);
     check(image == &expected).note("the image afterwards")
 }
 
@@ -72,7 +74,7 @@ pub(super) fn try_disk(case: &DiskCase) -> Result<(), Fail> {
     let mut image = [0; THREE_BLOCKS];
     lay(&mut image, case.before);
     take_steps(&mut image, case.fuses, case.steps)?;
-    check_image(&image, case.before, case.after)
+    check_image(&image, case)
 }
 
 // Tries a row.
@@ -83,8 +85,12 @@ pub(super) fn try_disk_row(row: &DiskRow) -> Result<(), Fail> {
         DiskStep(*setup, Answer::Done),
         DiskStep(*call, *answer),
     ];
-    let mut image = [0; THREE_BLOCKS];
-    lay(&mut image, &[*before]);
-    take_steps(&mut image, &[], &steps)?;
-    check_image(&image, &[*before], &[*after])
+    try_disk(
+        &DiskCase {
+            fuses: &[],
+            before: &[*before],
+            steps: &steps,
+            after: &[*after],
+        },
+    )
 }

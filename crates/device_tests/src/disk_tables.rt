@@ -13,8 +13,9 @@ use crate::disk_cases::DiskCase;
 use crate::disk_cases::DiskFrame;
 use crate::disk_cases::DiskRow;
 
-// Refusals at the last good block and the first bad one, at 511, 512 and 513 bytes, and where two conditions hold at once.
-pub(super) const DISK_EDGES: &[DiskCase] = &[
+// Refusals at the last good block and the first bad one, at 511, 512 and 513 bytes, and where two conditions hold at once;
+// fuses: what counts, where power fails, and which power-on has which.
+pub(super) const DISK_CASES: &[DiskCase<'static>] = &[
     // off comes before the size and the place; the number of blocks is told all the same
     DiskCase {
         fuses: &[],
@@ -68,154 +69,7 @@ pub(super) const DISK_EDGES: &[DiskCase] = &[
         ],
         after: &[DiskFrame(0, 1, 0, 3, 7), DiskFrame(2, 1, 0, 5, 9)],
     },
-];
-
-// Each state of a block under each call. A block is brought to state 1 by a write.
-pub(super) const DISK_STATES: &[DiskRow] = &[
-    // 0, settled
-    DiskRow(
-        DiskFrame(1, 0, 0, 1, 2),
-        PowerOn,
-        Read(1, 512),
-        Found(1),
-        DiskFrame(1, 0, 0, 1, 2),
-    ),
-    DiskRow(
-        DiskFrame(1, 0, 0, 1, 2),
-        PowerOn,
-        Write(1, 512, 3),
-        Done,
-        DiskFrame(1, 1, 0, 1, 3),
-    ),
-    DiskRow(
-        DiskFrame(1, 0, 0, 1, 2),
-        PowerOn,
-        Sync,
-        Done,
-        DiskFrame(1, 0, 0, 1, 2),
-    ),
-    DiskRow(
-        DiskFrame(1, 0, 0, 1, 2),
-        PowerOn,
-        PowerOn,
-        Done,
-        DiskFrame(1, 0, 0, 1, 2),
-    ),
-    // 1, unsettled
-    DiskRow(
-        DiskFrame(1, 0, 0, 1, 2),
-        Write(1, 512, 3),
-        Read(1, 512),
-        Found(3),
-        DiskFrame(1, 1, 0, 1, 3),
-    ),
-    DiskRow(
-        DiskFrame(1, 0, 0, 1, 2),
-        Write(1, 512, 3),
-        Write(1, 512, 4),
-        Refused(4, 3, 1),
-        DiskFrame(1, 1, 0, 1, 3),
-    ),
-    DiskRow(
-        DiskFrame(1, 0, 0, 1, 2),
-        Write(1, 512, 3),
-        Sync,
-        Done,
-        DiskFrame(1, 0, 0, 3, 3),
-    ),
-    DiskRow(
-        DiskFrame(1, 0, 0, 1, 2),
-        Write(1, 512, 3),
-        PowerOn,
-        Done,
-        DiskFrame(1, 0, 0, 1, 3),
-    ),
-    DiskRow(
-        DiskFrame(1, 0, 1, 1, 2),
-        Write(1, 512, 3),
-        PowerOn,
-        Done,
-        DiskFrame(1, 0, 1, 3, 3),
-    ),
-    DiskRow(
-        DiskFrame(1, 0, 2, 1, 2),
-        Write(1, 512, 3),
-        PowerOn,
-        Done,
-        DiskFrame(1, 0, 2, 1, 3),
-    ),
-    DiskRow(
-        DiskFrame(1, 0, 255, 1, 2),
-        Write(1, 512, 3),
-        PowerOn,
-        Done,
-        DiskFrame(1, 0, 255, 1, 3),
-    ),
-];
-
-// Each state in an image by each fate at the first power-on, and what the block then reads.
-pub(super) const DISK_FATES: &[DiskRow] = &[
-    DiskRow(
-        DiskFrame(1, 0, 0, 1, 2),
-        PowerOn,
-        Read(1, 512),
-        Found(1),
-        DiskFrame(1, 0, 0, 1, 2),
-    ),
-    DiskRow(
-        DiskFrame(1, 0, 1, 1, 2),
-        PowerOn,
-        Read(1, 512),
-        Found(1),
-        DiskFrame(1, 0, 1, 1, 2),
-    ),
-    DiskRow(
-        DiskFrame(1, 0, 2, 1, 2),
-        PowerOn,
-        Read(1, 512),
-        Found(1),
-        DiskFrame(1, 0, 2, 1, 2),
-    ),
-    DiskRow(
-        DiskFrame(1, 0, 255, 1, 2),
-        PowerOn,
-        Read(1, 512),
-        Found(1),
-        DiskFrame(1, 0, 255, 1, 2),
-    ),
-    DiskRow(
-        DiskFrame(1, 1, 0, 1, 2),
-        PowerOn,
-        Read(1, 512),
-        Found(1),
-        DiskFrame(1, 0, 0, 1, 2),
-    ),
-    DiskRow(
-        DiskFrame(1, 1, 1, 1, 2),
-        PowerOn,
-        Read(1, 512),
-        Found(2),
-        DiskFrame(1, 0, 1, 2, 2),
-    ),
-    DiskRow(
-        DiskFrame(1, 1, 2, 1, 2),
-        PowerOn,
-        Read(1, 512),
-        Found(1),
-        DiskFrame(1, 0, 2, 1, 2),
-    ),
-    DiskRow(
-        DiskFrame(1, 1, 255, 1, 2),
-        PowerOn,
-        Read(1, 512),
-        Found(1),
-        DiskFrame(1, 0, 255, 1, 2),
-    ),
-];
-
-// Fuses: what counts, where power fails, and which power-on has which.
-pub(super) const DISK_FUSES: &[DiskCase] = &[
-    // none ever fails without a fuse
+    // fuses: none ever fails without one
     DiskCase {
         fuses: &[],
         before: &[],
@@ -316,4 +170,144 @@ pub(super) const DISK_FUSES: &[DiskCase] = &[
         ],
         after: &[],
     },
+];
+
+// Each state of a block under each call. A block is brought to state 1 by a write.
+pub(super) const DISK_ROWS: &[DiskRow] = &[
+    // 0, settled
+    DiskRow(
+        DiskFrame(1, 0, 0, 1, 2),
+        PowerOn,
+        Read(1, 512),
+        Found(1),
+        DiskFrame(1, 0, 0, 1, 2),
+    ),
+    DiskRow(
+        DiskFrame(1, 0, 0, 1, 2),
+        PowerOn,
+        Write(1, 512, 3),
+        Done,
+        DiskFrame(1, 1, 0, 1, 3),
+    ),
+    DiskRow(
+        DiskFrame(1, 0, 0, 1, 2),
+        PowerOn,
+        Sync,
+        Done,
+        DiskFrame(1, 0, 0, 1, 2),
+    ),
+    DiskRow(
+        DiskFrame(1, 0, 0, 1, 2),
+        PowerOn,
+        PowerOn,
+        Done,
+        DiskFrame(1, 0, 0, 1, 2),
+    ),
+    // 1, unsettled
+    DiskRow(
+        DiskFrame(1, 0, 0, 1, 2),
+        Write(1, 512, 3),
+        Read(1, 512),
+        Found(3),
+        DiskFrame(1, 1, 0, 1, 3),
+    ),
+    DiskRow(
+        DiskFrame(1, 0, 0, 1, 2),
+        Write(1, 512, 3),
+        Write(1, 512, 4),
+        Refused(4, 3, 1),
+        DiskFrame(1, 1, 0, 1, 3),
+    ),
+    DiskRow(
+        DiskFrame(1, 0, 0, 1, 2),
+        Write(1, 512, 3),
+        Sync,
+        Done,
+        DiskFrame(1, 0, 0, 3, 3),
+    ),
+    DiskRow(
+        DiskFrame(1, 0, 0, 1, 2),
+        Write(1, 512, 3),
+        PowerOn,
+        Done,
+        DiskFrame(1, 0, 0, 1, 3),
+    ),
+    DiskRow(
+        DiskFrame(1, 0, 1, 1, 2),
+        Write(1, 512, 3),
+        PowerOn,
+        Done,
+        DiskFrame(1, 0, 1, 3, 3),
+    ),
+    DiskRow(
+        DiskFrame(1, 0, 2, 1, 2),
+        Write(1, 512, 3),
+        PowerOn,
+        Done,
+        DiskFrame(1, 0, 2, 1, 3),
+    ),
+    DiskRow(
+        DiskFrame(1, 0, 255, 1, 2),
+        Write(1, 512, 3),
+        PowerOn,
+        Done,
+        DiskFrame(1, 0, 255, 1, 3),
+    ),
+    // each state in an image by each fate at the first power-on, and what the block then reads
+    DiskRow(
+        DiskFrame(1, 0, 0, 1, 2),
+        PowerOn,
+        Read(1, 512),
+        Found(1),
+        DiskFrame(1, 0, 0, 1, 2),
+    ),
+    DiskRow(
+        DiskFrame(1, 0, 1, 1, 2),
+        PowerOn,
+        Read(1, 512),
+        Found(1),
+        DiskFrame(1, 0, 1, 1, 2),
+    ),
+    DiskRow(
+        DiskFrame(1, 0, 2, 1, 2),
+        PowerOn,
+        Read(1, 512),
+        Found(1),
+        DiskFrame(1, 0, 2, 1, 2),
+    ),
+    DiskRow(
+        DiskFrame(1, 0, 255, 1, 2),
+        PowerOn,
+        Read(1, 512),
+        Found(1),
+        DiskFrame(1, 0, 255, 1, 2),
+    ),
+    DiskRow(
+        DiskFrame(1, 1, 0, 1, 2),
+        PowerOn,
+        Read(1, 512),
+        Found(1),
+        DiskFrame(1, 0, 0, 1, 2),
+    ),
+    DiskRow(
+        DiskFrame(1, 1, 1, 1, 2),
+        PowerOn,
+        Read(1, 512),
+        Found(2),
+        DiskFrame(1, 0, 1, 2, 2),
+    ),
+    DiskRow(
+        DiskFrame(1, 1, 2, 1, 2),
+        PowerOn,
+        Read(1, 512),
+        Found(1),
+        DiskFrame(1, 0, 2, 1, 2),
+    ),
+    DiskRow(
+        DiskFrame(1, 1, 255, 1, 2),
+        PowerOn,
+        Read(1, 512),
+        Found(1),
+        DiskFrame(1, 0, 255, 1, 2),
+    ),
 ];

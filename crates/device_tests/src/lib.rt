@@ -10,22 +10,18 @@ mod chip_cases;
 #[cfg(test)]
 mod chip_fuses;
 #[cfg(test)]
-mod chip_images;
+mod chip_tests;
 #[cfg(test)]
 mod disk_calls;
 #[cfg(test)]
 mod disk_cases;
 #[cfg(test)]
-mod disk_images;
-#[cfg(test)]
 mod disk_tables;
 #[cfg(test)]
-mod image_chips;
+mod disk_tests;
 #[cfg(test)]
-mod image_disks;
+mod images;
 #[cfg(test)]
 mod pair_cases;
 #[cfg(test)]
 mod pair_tables;
-#[cfg(test)]
-mod pairs;

@@ -2,6 +2,7 @@
 use crate::calls::Answer;
 use crate::calls::AnswerDebug;
 use crate::calls::AnswerPartialEq;
+use crate::calls::Call;
 use crate::calls::Step;
 use crate::calls::check_steps;
 use crate::calls::refused;
@@ -10,7 +11,7 @@ use crate::chip_cases::Row;
 use crate::chip_cases::TWO_BLOCKS;
 use crate::chip_cases::check_image;
 use crate::chip_cases::lay;
-use crate::chip_cases::steps_of;
+use crate::chip_cases::try_chip;
 use device::Chip;
 use image::ImageChip;
 use image::ImageChipChip;
@@ -43,18 +44,6 @@ fn join<P: Chip + Drop, Q: Chip + Drop>(
     }
 }
 
-// Powers two chips and joins them all the same.
-fn power_and_join<P: Chip + Drop, Q: Chip + Drop>(
-    mut first: P,
-    mut second: Q,
-    steps: &[Step],
-) -> Result<(), Fail>
-    requires { ⌜ P·Chip .sound first ⌝ ∗ ⌜ Q·Chip .sound second ⌝ }
-{
-    check(first.power_on().is_ok() && second.power_on().is_ok())?;
-    join(first, second, Answer::Counted(2), steps)
-}
-
 // Makes two image chips, and joins them.
 fn join_images<'a>(
     first: &'a mut [u8],
@@ -67,17 +56,6 @@ fn join_images<'a>(
     match ImageChip::new(first, fuses) {
         Ok(first) => match ImageChip::new(second, others) {
             Ok(second) => join(first, second, answer, steps),
-            Err(_) => Err(Fail::new("no second chip was made")),
-        },
-        Err(_) => Err(Fail::new("no first chip was made")),
-    }
-}
-
-// Makes two image chips, powers them, and joins them.
-fn join_powered<'a>(first: &'a mut [u8], second: &'a mut [u8], steps: &[Step]) -> Result<(), Fail> {
-    match ImageChip::new(first, &[]) {
-        Ok(first) => match ImageChip::new(second, &[]) {
-            Ok(second) => power_and_join(first, second, steps),
             Err(_) => Err(Fail::new("no second chip was made")),
         },
         Err(_) => Err(Fail::new("no first chip was made")),
@@ -99,19 +77,36 @@ fn take_steps<'a>(
 }
 
 // Tries a case over a pair.
-pub(super) fn try_pair(fuses: &[u32], others: &[u32], case: &Case) -> Result<(), Fail> {
+pub(super) fn try_pair(case: &Case) -> Result<(), Fail> {
     let mut image = [0; TWO_BLOCKS];
     lay(&mut image, case.before);
-    take_steps(&mut image, fuses, others, case.steps)?;
-    check_image(&image, case.before, case.after)
+    take_steps(&mut image, case.fuses, case.others, case.steps)?;
+    check_image(&image, case)
 }
 
-// Tries a row over a pair.
-pub(super) fn try_pair_row(row: &Row) -> Result<(), Fail> {
-    let mut image = [0; TWO_BLOCKS];
-    lay(&mut image, &[row.0]);
-    take_steps(&mut image, &[], &[], &steps_of(row))?;
-    check_image(&image, &[row.0], &[row.4])
+// Tries a case over an image chip and over a pair.
+pub(super) fn try_both(case: &Case) -> Result<(), Fail> {
+    try_chip(case)?;
+    try_pair(case)
+}
+
+// Tries a row over both.
+pub(super) fn try_row(row: &Row) -> Result<(), Fail> {
+    let Row(before, setup, call, answer, after) = row;
+    let steps = [
+        Step(Call::PowerOn, Answer::Done),
+        Step(*setup, Answer::Done),
+        Step(*call, *answer),
+    ];
+    try_both(
+        &Case {
+            fuses: &[],
+            others: &[],
+            before: &[*before],
+            steps: &steps,
+            after: &[*after],
+        },
+    )
 }
 
 // Tries to join two chips.
@@ -127,11 +122,4 @@ pub(super) fn try_joined(heap: Global, joined: &Joined) -> Result<(), Fail> {
         *answer,
         steps,
     )
-}
-
-// Tries to join two chips that are on.
-pub(super) fn try_powered(steps: &[Step]) -> Result<(), Fail> {
-    let mut first = [0; BLOCK];
-    let mut second = [0; BLOCK];
-    join_powered(&mut first, &mut second, steps)
 }
