@@ -1,0 +1,2 @@
+pub mod Tablewise
+pub mod Changing
