@@ -21,7 +21,7 @@ use Rattle.layout.specs.declared.records.Record.the-variants.{PutClean, PutDirt
 use Rattle.layout.specs.Entries.{Address-fits, Proper-entry}
 use Rattle.layout.specs.Records.{Proper-record}
 use Rattle.table.specs.Tables.{Table, entry, empty, empty-table, has-mark, entry-at, marked-at, holds, held, mark-of, emptied, without, cleaned-entry, cleaned, entered, put, apply, next-table, replayed, Proper-table}
-use Rattle.table.specs.Views.{Alone-at}
+use Rattle.table.specs.Views.{Alone-at, may-enter, Turns}
 use Rattle.table.proofs.Tablewise.{holds-parts, holds-from, held-at, unheld-at, unheld-from, holds-inside, mark-at, mark-unheld, held-fits, marked-fits, entry-proper}
 
 -- Entry by entry
@@ -71,8 +71,8 @@ pub cleaned-holds : (a b : ℕ) (e : Entry) → holds b (cleaned-entry a e) ≡ 
 cleaned-holds a b e h =
     ⊎-elim
     (λ y. let p = holds-parts a e y in
-          let q = holds-parts b (entry Clean a) (ap (holds b) (sym (cond-true (holds a e) (entry Clean a) e y)) ∙ h) in
-          holds-from b e (p .0) (p .1 ∙ q .1))
+    let q = holds-parts b (entry Clean a) (ap (holds b) (sym (cond-true (holds a e) (entry Clean a) e y)) ∙ h) in
+    holds-from b e (p .0) (p .1 ∙ q .1))
     (λ n. ap (holds b) (sym (cond-false (holds a e) (entry Clean a) e n)) ∙ h)
     (cases-bool (holds a e))
 
@@ -114,10 +114,10 @@ module _ (t : Table) (a p : ℕ) (only : Alone-at t a p) where
   one-changed f e u len at there left =
       ext-getD empty u (set t p e) (len ∙ sym (length-set t p e))
       (λ i l.
-        ⊎-elim
-        (λ same. at i ∙ there (entry-at t i) (subst (λ k. holds a (entry-at t k) ≡ true) (sym same) (only .here)) ∙ sym (getD-set-same t p e empty (only .inside)) ∙ ap (entry-at (set t p e)) (sym same))
-        (λ ne. at i ∙ left (entry-at t i) (others i ne) ∙ sym (getD-set-other t p i e empty ne))
-        (cases-eq i p))
+      ⊎-elim
+      (λ same. at i ∙ there (entry-at t i) (subst (λ k. holds a (entry-at t k) ≡ true) (sym same) (only .here)) ∙ sym (getD-set-same t p e empty (only .inside)) ∙ ap (entry-at (set t p e)) (sym same))
+      (λ ne. at i ∙ left (entry-at t i) (others i ne) ∙ sym (getD-set-other t p i e empty ne))
+      (cases-eq i p))
 
   pub without-one : without t a ≡ set t p empty
   without-one =
@@ -253,3 +253,19 @@ replayed-append o (r ∷ rs) ss = replayed-append (next-table o r) rs ss
 pub replayed-breach : (rs : List Record) → replayed None rs ≡ None
 replayed-breach [] = refl
 replayed-breach (r ∷ rs) = replayed-breach rs
+
+-- The answers of the calls that change the table
+
+pub turns-drop : (t u : Table) (a : ℕ) (r : Bool) → r ≡ held t a → u ≡ without t a → Turns t (cond (held t a) (Some (without t a)) None) r u
+turns-drop t u a true was after = cond-true (held t a) (Some (without t a)) None (sym was) ∙ ap Some (sym after)
+turns-drop t u a false was after = (cond-false (held t a) (Some (without t a)) None (sym was), after ∙ without-none t a (sym was))
+
+pub turns-clean : (t u : Table) (a : ℕ) (r : Bool) → r ≡ held t a → u ≡ cleaned t a → Turns t (cond (held t a) (Some (cleaned t a)) None) r u
+turns-clean t u a true was after = cond-true (held t a) (Some (cleaned t a)) None (sym was) ∙ ap Some (sym after)
+turns-clean t u a false was after = (cond-false (held t a) (Some (cleaned t a)) None (sym was), after ∙ cleaned-none t a (sym was))
+
+-- what a page that may enter an address is
+pub enterable : (t : Table) (p : ℕ) (m : Mark) → may-enter t p m ≡ true → (has-mark m ≡ true) × (p < length t)
+enterable t p m h =
+    let q = and-parts (has-mark m) (ltb p (length t) && not (marked-at t p)) h in
+    (q .0, ltb-true p (length t) (and-parts (ltb p (length t)) (not (marked-at t p)) (q .1) .0))

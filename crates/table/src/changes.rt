@@ -1,12 +1,12 @@
 // What changes the mapping table: a page that enters an address, an address that is dropped or marked clean, and records.
-ghost use mathlib.Core.Bool.{Bool, true, false};
 ghost use mathlib.Core.List.{[], _∷_};
 ghost use mathlib.Core.Path.{_≡_};
 ghost use Rattle.std.specs.declared.option.Option.the-variants.{Some, None};
-ghost use Rattle.std.specs.declared.result.Result.the-variants.{Ok, Err};
-ghost use Rattle.table.specs.Tables.{has-mark, held, without, cleaned, apply};
-ghost use Rattle.table.specs.Views.{table-of, enters, Turns};
+ghost use Rattle.table.specs.Tables.{empty-table, held, without, cleaned, apply, replayed};
+ghost use Rattle.table.specs.Examples.{drop-five, after-puts, after-drop, After-two-puts};
+ghost use Rattle.table.specs.Views.{table-of, may-enter, enters, Turns, Applies};
 use crate::lookups::EMPTY;
+use crate::lookups::is_marked;
 use crate::mapping::MappingTable;
 use device::DataPage;
 use device::DiskAddress;
@@ -50,12 +50,19 @@ impl MappingTable {
         }
     }
 
+    // Whether the page may enter an address with this mark.
+    fn may_enter(&self, page: DataPage, mark: Mark) -> bool
+        ensures { λ r. ⌜ r ≡ may-enter (table-of (now (self .entry))) (page .0) mark ⌝ }
+    {
+        is_marked(mark) & ((page.0 < self.len()) & !is_marked(self.entry(page).mark))
+    }
+
     // Has an unmarked page of the table hold the address, in place of the page that held it. Changes nothing, and says so, where the page or the mark does
     // not do.
     pub fn enter(&mut self, page: DataPage, mark: Mark, address: DiskAddress) -> bool
         ensures { λ r. ⌜ Turns (table-of (now (self .entry))) (enters (table-of (now (self .entry))) (page .0) mark (address .0)) r (table-of (now (self .exit))) ⌝ }
     {
-        if self.len() <= page.0 || is_marked(self.entry(page).mark) || !is_marked(mark) {
+        if !self.may_enter(page, mark) {
             return false;
         }
         self.empty_address(address);
@@ -63,26 +70,33 @@ impl MappingTable {
         true
     }
 
-    // Does what the record says.
+    // Does what the record says, or refuses a record that does not fit the table.
     pub fn apply(&mut self, record: Record) -> Result<(), Breach>
-        ensures { λ r. ⌜ elim r [ Ok x ↦ apply (table-of (now (self .entry))) «record» ≡ Some (table-of (now (self .exit))) | Err x ↦ (apply (table-of (now (self .entry))) «record» ≡ None) × (table-of (now (self .exit)) ≡ table-of (now (self .entry))) ] ⌝ }
+        ensures { λ r. ⌜ Applies (table-of (now (self .entry))) «record» r (table-of (now (self .exit))) ⌝ }
     {
-        let fits = match record {
+        if self.follow(record) {
+            Ok(())
+        } else {
+            Err(Breach)
+        }
+    }
+
+    // Does what the record says, and says whether it fits the table.
+    fn follow(&mut self, record: Record) -> bool
+        ensures { λ r. ⌜ Turns (table-of (now (self .entry))) (apply (table-of (now (self .entry))) «record») r (table-of (now (self .exit))) ⌝ }
+    {
+        match record {
             Record::PutClean(page, address) => self.enter(page, Mark::Clean, address),
             Record::PutDirty(page, address) => self.enter(page, Mark::Dirty, address),
             Record::Drop(address) => self.empty_address(address),
             Record::MarkClean(address) => self.mark_clean(address),
-        };
-        if fits { Ok(()) } else { Err(Breach) }
+        }
     }
 }
 
-// Whether the mark is one of a page that holds an address.
-fn is_marked(mark: Mark) -> bool
-    ensures { λ r. ⌜ r ≡ has-mark mark ⌝ }
-{
-    match mark {
-        Mark::Empty => false,
-        Mark::Clean | Mark::Dirty => true,
-    }
-}
+// From an empty table: a put clean and a put dirty of one address, then a drop of it, then another.
+pub fn replay_examples()
+    ensures puts { λ _. ⌜ After-two-puts after-puts ⌝ }
+    ensures dropped { λ _. ⌜ after-drop ≡ Some (empty-table 32) ⌝ }
+    ensures again { λ _. ⌜ replayed after-drop (drop-five ∷ []) ≡ None ⌝ }
+{}

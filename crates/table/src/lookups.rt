@@ -1,9 +1,12 @@
 // What the mapping table says of a page and of an address.
+ghost use lib.ListN.{length, getD};
+ghost use mathlib.Core.Bool.{cond};
 ghost use mathlib.Core.Path.{_≡_};
-ghost use lib.ListN.{length};
+ghost use Prim.Native.Nat.{ℕ, _+_, _<_};
+ghost use Rattle.layout.specs.Entries.{mark-number};
 ghost use Rattle.layout.specs.Geometry.{data-pages};
-ghost use Rattle.table.specs.Tables.{empty-table, entry-at, holds, mark-of};
-ghost use Rattle.table.specs.Views.{table-of, Finds};
+ghost use Rattle.table.specs.Tables.{empty-table, has-mark, entry-at, holds, mark-of};
+ghost use Rattle.table.specs.Views.{table-of, Finds, marks-from};
 use crate::mapping::MappingTable;
 use device::DataPage;
 use device::DiskAddress;
@@ -75,14 +78,44 @@ impl MappingTable {
             None => Mark::Empty,
         }
     }
+
+    // Fills `out` with the marks of the addresses from the first on, as numbers.
+    pub fn marks(&self, first: DiskAddress, out: &mut [u8])
+        ensures { λ _. ⌜ now (out .exit) ≡ marks-from (table-of (now (self .entry))) (first .0) (length (now (out .entry))) ⌝ }
+    {
+        out.fill(0);
+        let entries = self.as_slice();
+        for e in entries {
+            write_mark(out, first, *e);
+        }
+    }
+}
+
+// Writes the mark of an entry into the marks of the addresses from the first on, where the entry holds one of them.
+fn write_mark(out: &mut [u8], first: DiskAddress, e: Entry)
+    ensures { λ _. ⌜ ((k : ℕ) → k < length (now (out .entry)) → getD (now (out .exit)) k 0 ≡ cond (holds (first .0 + k) e) (mark-number (e .mark)) (getD (now (out .entry)) k 0)) ⌝ }
+{
+    if is_marked(e.mark) && first.0 <= e.address.0 {
+        let k = (e.address.0 - first.0) as usize;
+        if k < out.len() {
+            out[k] = e.mark.number();
+        }
+    }
+}
+
+// Whether the mark is one of a page that holds an address.
+pub(crate) fn is_marked(mark: Mark) -> bool
+    ensures { λ r. ⌜ r ≡ has-mark mark ⌝ }
+{
+    match mark {
+        Mark::Empty => false,
+        Mark::Clean | Mark::Dirty => true,
+    }
 }
 
 // Whether the entry holds the address.
 fn holds(e: Entry, address: DiskAddress) -> bool
     ensures { λ r. ⌜ r ≡ holds (address .0) e ⌝ }
 {
-    match e.mark {
-        Mark::Empty => false,
-        Mark::Clean | Mark::Dirty => e.address.0 == address.0,
-    }
+    is_marked(e.mark) & (e.address.0 == address.0)
 }
