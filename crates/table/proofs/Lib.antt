@@ -1,0 +1,5 @@
+pub mod Tablewise
+pub mod Changing
+pub mod Keeping
+pub mod Marking
+pub mod Choosing
