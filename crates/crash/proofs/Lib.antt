@@ -1,0 +1,4 @@
+pub mod Ways
+pub mod Cuts
+pub mod Orders
+pub mod Examples

@@ -1,0 +1,4 @@
+pub mod Recovering
+pub mod Answer
+pub mod Looking
+pub mod Trailers

@@ -1,0 +1,17 @@
+// That recovery has one answer, and examples of what the trailers' numbers decide: each on the contract of a function.
+ghost use Rattle.recovery.specs.Answer.{One-answer, Zero-follows-two, Same-number-refused};
+
+// The same chip pages are recovered to one answer only.
+pub fn recovery_has_one_answer()
+    ensures { λ _. ⌜ One-answer ⌝ }
+{}
+
+// Trailers with numbers 2 and 0: the second area is active.
+pub fn newer_area_example()
+    ensures { λ _. ⌜ Zero-follows-two ⌝ }
+{}
+
+// Trailers with number 1 each: refused at the second one.
+pub fn same_numbers_example()
+    ensures { λ _. ⌜ Same-number-refused ⌝ }
+{}
