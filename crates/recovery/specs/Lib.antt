@@ -2,3 +2,4 @@ pub mod Recovering
 pub mod Answer
 pub mod Looking
 pub mod Trailers
+pub mod Entering
