@@ -2,5 +2,8 @@ pub mod Lookwise
 pub mod Trailerwise
 pub mod Distinctness
 pub mod Pageful
+pub mod Datawise
+pub mod Logwise
 pub mod Stages
 pub mod OneAnswer
+pub mod Wholly

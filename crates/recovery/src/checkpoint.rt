@@ -112,7 +112,7 @@ fn read_page<C: Chip>(
 }
 
 // Reads all entry pages of the area into the table.
-fn read_pages<C: Chip>(
+pub fn read_pages<C: Chip>(
     chip: &mut C,
     geometry: Geometry,
     area: Area,

@@ -1,11 +1,11 @@
 // What the mapping table says of a page and of an address.
-ghost use lib.ListN.{length, getD};
+ghost use lib.ListN.{length, getD, take};
 ghost use mathlib.Core.Bool.{cond};
 ghost use mathlib.Core.Path.{_≡_};
 ghost use Prim.Native.Nat.{ℕ, _+_, _<_, _≤_};
 ghost use Rattle.layout.specs.Entries.{mark-number};
 ghost use Rattle.layout.specs.Geometry.{data-pages};
-ghost use Rattle.table.specs.Tables.{empty-table, has-mark, entry-at, holds, mark-of};
+ghost use Rattle.table.specs.Tables.{empty-table, has-mark, entry-at, holds, mark-of, Proper-table};
 ghost use Rattle.table.specs.Views.{table-of, Finds, marks-from};
 use crate::mapping::MappingTable;
 use device::DataPage;
@@ -37,6 +37,16 @@ impl MappingTable {
             entries: [EMPTY; 448],
             pages,
         }
+    }
+
+    // The table with these entries, where those of the data pages are such as a table has.
+    pub fn of_entries(geometry: Geometry, entries: [Entry; 448]) -> MappingTable
+        requires whole { ⌜ length entries ≡ 448 ⌝ }
+        requires proper { ⌜ Proper-table (take (data-pages (geometry .blocks)) entries) ⌝ }
+        ensures { λ r. ⌜ table-of r ≡ take (data-pages (geometry .blocks)) entries ⌝ }
+    {
+        let pages = geometry.data_pages();
+        MappingTable { entries, pages }
     }
 
     // The number of data pages.
