@@ -12,13 +12,16 @@ use Rattle.std.proofs.shelf.Tests.{eq-eqb, ne-eqb, cases-eq, true≢false}
 use Rattle.std.specs.declared.option.Option.{Option}
 use Rattle.std.specs.declared.option.Option.the-variants.{Some, None}
 use Rattle.std.specs.declared.result.Result.{Result}
+use Rattle.std.specs.declared.result.Result.the-variants.{Ok}
 use Rattle.std.specs.shelf.Lists.{All}
 use Rattle.device.specs.declared.faults.Fault.{Fault}
 use Rattle.device.specs.Cells.{Cell, reads, is-unsettled, Leaves}
 use Rattle.device.specs.Cells.Cell.{settled, unsettled}
-use Rattle.device.specs.Chips.{Note, State, Pages, Tears, block-of, data-page-at, Programs, program-refusal, programmed, Erases, erase-refusal, erased-block}
+use Rattle.device.specs.Chips.{Note, State, Pages, Tears, block-of, data-page-at, Syncs, Programs, program-refusal, programmed, Erases, erase-refusal, erased-block}
 use Rattle.device.specs.Chips.State.{blank, torn, held}
-use Rattle.device.proofs.Chipwise.{chip-cuts, program-blank, erase-free}
+use Rattle.device.proofs.Chipwise.{chip-cuts, chip-reads, program-blank, erase-free}
+use Rattle.device.proofs.Settling.{early-settled}
+use Rattle.device.specs.Calls.{wanted}
 use Rattle.layout.specs.declared.areas.Area.{Area}
 use Rattle.layout.specs.declared.areas.Area.the-variants.{One, Two}
 use Rattle.layout.specs.declared.records.Record.{Record}
@@ -386,15 +389,18 @@ module _ (D : ℕ) (small : D ≤ 448) where
             (λ (ne : q ≡ log-page-at D area j → ⊥). away q ne)
             (cases-eq q (log-page-at D area j))
 
+    log-new : s (log-page-at D area j) ≡ held (log-note records) (log-data records) → Finds D s area n u
+    log-new e =
+        with-page u (subst (λ z. Log-step z j t (was-old .0) u (suc j)) (sym e) (records, ok, refl, refl, makes, refl))
+        (backed-settled m u s (λ i x _ z. settled-away (data-page-at i) x (λ y. omega (arith, first-small area)) z) backed)
+
     log-ways : Finds D s area n t ⊎ Finds D s area n u
     log-ways = go (page-ways m p (log-note records) (log-data records) was s w)
       where
         go : (s (log-page-at D area j) ≡ blank) ⊎ ((s (log-page-at D area j) ≡ held (log-note records) (log-data records)) ⊎ (s (log-page-at D area j) ≡ torn))
             → Finds D s area n t ⊎ Finds D s area n u
         go (inl e) = inl (unprogrammed e)
-        go (inr (inl e)) =
-            inr (with-page u (subst (λ z. Log-step z j t (was-old .0) u (suc j)) (sym e) (records, ok, refl, refl, makes, refl))
-            (backed-settled m u s (λ i x _ z. settled-away (data-page-at i) x (λ y. omega (arith, first-small area)) z) backed))
+        go (inr (inl e)) = inr (log-new e)
         go (inr (inr e)) = inl (with-page t (subst (λ z. Log-step z j t (was-old .0) t (suc j)) (sym e) (refl, refl)) old-backed)
 
   next-log : (m m′ : Pages) (area : Area) (n : ℕ) (t u : Table) (j : ℕ) (records : List Record) (r : Result (Unit {0}) Fault)
@@ -405,6 +411,54 @@ module _ (D : ℕ) (small : D ≤ 448) where
       (λ x. log-ways m area n t u j records h few free ok makes backed (free j (omega arith) few) s (x .1))
       (wanted-cases _ m _ s (chip-cuts .at-program m m′ (log-page-at D area j) (log-note records) (log-data records) r s call l))
 
+  -- A page that was programmed, and settled by a sync behind it, reads so whichever way a cut goes.
+  module _ (m m₁ m₂ : Pages) (p : ℕ) (note : Note) (bytes : List ℕ) (call : Programs m p note bytes (Ok tt) m₁) (sync : Syncs m₁ (Ok tt) m₂) (s : ℕ → State) (l : Leaves Tears (m₂ .cell) s) where
+    still-wanted : Leaves Tears (programmed m p note bytes) s
+    still-wanted =
+        subst (λ o. Leaves Tears (wanted o m (programmed m p note bytes)) s) (call .0)
+        (chip-cuts .at-program m m₁ p note bytes (Ok tt) s call (chip-cuts .at-sync m₁ m₂ (Ok tt) s sync l))
+
+    was-blank : m .cell p ≡ settled blank
+    was-blank = program-blank m p (length bytes) (call .0)
+
+    now-held : s p ≡ held note bytes
+    now-held =
+        settled-way (m₂ .cell) s p (reads (m₁ .cell p)) l (early-settled (reads (m₁ .cell p)) (m₂ .cell p) (sync .2 .cells p))
+        ∙ chip-reads .after-program m m₁ p note bytes call .0
+
+  log-committed : (m m₁ m₂ : Pages) (area : Area) (n : ℕ) (t u : Table) (j : ℕ) (records : List Record) → Holds D m area n t → j < log-pages D → Blank-from D m area j
+      → Proper-log records → replayed (Some t) records ≡ Some u → Settled-backed D m u → Programs m (log-page-at D area j) (log-note records) (log-data records) (Ok tt) m₁
+      → Syncs m₁ (Ok tt) m₂ → Holds D m₂ area n u
+  log-committed m m₁ m₂ area n t u j records h few free ok makes backed call sync s l =
+      log-new m area n t u j records h few free ok makes backed (was-blank m m₁ m₂ _ _ _ call sync s l) s (still-wanted m m₁ m₂ _ _ _ call sync s l)
+      (now-held m m₁ m₂ _ _ _ call sync s l)
+
+  trailer-committed : (m m₁ m₂ : Pages) (area : Area) (n : ℕ) (t u : Table) → Holds D m area n t → n < 3 → length u ≡ D → Proper-table u
+      → Settled-entries D m (other-area area) u → Blank-from D m (other-area area) 0 → Settled-backed D m u
+      → Programs m (trailer-at D (other-area area)) (trailer-note D ((n + 1) % 3)) (trailer-data (other-area area) D) (Ok tt) m₁ → Syncs m₁ (Ok tt) m₂
+      → Holds D m₂ (other-area area) ((n + 1) % 3) u
+  trailer-committed m m₁ m₂ area n t u h few long ok entries log backed call sync s l =
+      now-new m area n t u h few long ok entries log backed (was-blank m m₁ m₂ _ _ _ call sync s l) s (still-wanted m m₁ m₂ _ _ _ call sync s l)
+      (now-held m m₁ m₂ _ _ _ call sync s l)
+
+  -- a settled checkpoint with a blank log, and no trailer in the other area
+  pub settled-holds : (m : Pages) (area : Area) (n : ℕ) (t : Table) → n < 3 → length t ≡ D → Proper-table t → Settled-entries D m area t
+      → m .cell (trailer-at D area) ≡ settled (held (trailer-note D n) (trailer-data area D)) → m .cell (trailer-at D (other-area area)) ≡ settled blank
+      → Blank-from D m area 0 → Settled-backed D m t → Holds D m area n t
+  settled-holds m area n t few long ok entries own other log backed s l = (
+    0,
+    record {
+      active = record { own = record { small = few; is = way (trailer-at D area) _ own }; other = inl (λ c. subst Counts (way (trailer-at D (other-area area)) blank other) c) };
+      base = t;
+      entries = entered-whole s area t long ok (λ j k. way (entry-page-at area j) _ (entries j k));
+      log = log-blank s area t (λ i k. way (log-page-at D area i) blank (log i (omega arith) k));
+      backed = backed-settled m t s (λ i x _ e. way (data-page-at i) x e) backed;
+    },
+  )
+    where
+      way : (q : ℕ) (x : State) → m .cell q ≡ settled x → s q ≡ x
+      way q x e = settled-way (m .cell) s q x l e
+
   pub safe-steps : Safe-steps D
   safe-steps = record {
     data-page = data-page;
@@ -413,6 +467,11 @@ module _ (D : ℕ) (small : D ≤ 448) where
     other-entry = other-entry;
     other-trailer = other-trailer;
     next-log = next-log;
+    log-committed = log-committed;
+    trailer-committed = trailer-committed;
+    formed = settled-holds;
+    either-syncing = λ m m′ area n t area′ n′ t′ r h call s l. h s (chip-cuts .at-sync m m′ r s call l);
+    either-powering = λ m m′ area n t area′ n′ t′ r h call s l. h s (chip-cuts .at-power-on m m′ r s call l);
     reading = λ m m′ area n t p buf after r h call s l. h s (chip-cuts .at-read m m′ p buf after r s call l);
     syncing = λ m m′ area n t r h call s l. h s (chip-cuts .at-sync m m′ r s call l);
     powering = λ m m′ area n t r h call s l. h s (chip-cuts .at-power-on m m′ r s call l);

@@ -28,26 +28,8 @@ use Rattle.crash.specs.Crash.{Holds, Settled-backed, Blank-from, Settled-entri
 use Rattle.crash.specs.Orders.{put-seven}
 use Rattle.crash.specs.Examples.{small-chip, with-seven, One-sync-example, Erase-first-example}
 use Rattle.crash.proofs.Ways.{settled-way}
-use Rattle.crash.proofs.Cuts.{entered-whole, log-blank, backed-settled}
+use Rattle.crash.proofs.Cuts.{settled-holds}
 use Rattle.crash.proofs.Orders.{one-sync-loses, erase-first-loses, seven-proper}
-
--- a settled checkpoint with an empty log, and no trailer in the other area
-pub settled-holds : (D : ℕ) → D ≤ 448 → (m : Pages) (area : Area) (n : ℕ) (t : Table) → n < 3 → length t ≡ D → Proper-table t → Settled-entries D m area t
-    → m .cell (trailer-at D area) ≡ settled (trailer-page area D n) → m .cell (trailer-at D (other-area area)) ≡ settled blank → Blank-from D m area 0 → Settled-backed D m t
-    → Holds D m area n t
-settled-holds D small m area n t few long ok entries own other log backed s l = (
-  0,
-  record {
-    active = record { own = record { small = few; is = way (trailer-at D area) _ own }; other = inl (λ c. subst Counts (way (trailer-at D (other-area area)) blank other) c) };
-    base = t;
-    entries = entered-whole D small s area t long ok (λ j k. way (entry-page-at area j) _ (entries j k));
-    log = log-blank D small s area t (λ i k. way (log-page-at D area i) blank (log i (omega arith) k));
-    backed = backed-settled D small m t s (λ i x _ e. way (data-page-at i) x e) backed;
-  },
-)
-  where
-    way : (q : ℕ) (x : State) → m .cell q ≡ settled x → s q ≡ x
-    way q x e = settled-way (m .cell) s q x l e
 
 -- entries without marks
 abbrev Nothing : List Entry → Type 0

@@ -68,8 +68,24 @@ pub record Safe-steps (D : ℕ) : Type 0 where
   pub next-log : (m m′ : Pages) (area : Area) (n : ℕ) (t u : Table) (j : ℕ) (records : List Record) (r : Result (Unit {0}) Fault)
       → Holds D m area n t → j < log-pages D → Blank-from D m area j → Proper-log records → replayed (Some t) records ≡ Some u → Settled-backed D m u
       → Programs m (log-page-at D area j) (log-note records) (log-data records) r m′ → Holds-either D m′ area n t area n u
+  -- once a sync is served behind the log page, or behind the trailer, the new table is the only one
+  pub log-committed : (m m₁ m₂ : Pages) (area : Area) (n : ℕ) (t u : Table) (j : ℕ) (records : List Record) → Holds D m area n t → j < log-pages D → Blank-from D m area j
+      → Proper-log records → replayed (Some t) records ≡ Some u → Settled-backed D m u → Programs m (log-page-at D area j) (log-note records) (log-data records) (Ok tt) m₁
+      → Syncs m₁ (Ok tt) m₂ → Holds D m₂ area n u
+  pub trailer-committed : (m m₁ m₂ : Pages) (area : Area) (n : ℕ) (t u : Table) → Holds D m area n t → n < 3 → length u ≡ D → Proper-table u
+      → Settled-entries D m (other-area area) u → Blank-from D m (other-area area) 0 → Settled-backed D m u
+      → Programs m (trailer-at D (other-area area)) (trailer-note D ((n + 1) % 3)) (trailer-data (other-area area) D) (Ok tt) m₁ → Syncs m₁ (Ok tt) m₂
+      → Holds D m₂ (other-area area) ((n + 1) % 3) u
+  -- a form ends so: a settled checkpoint with a blank log, and no trailer in the other area
+  pub formed : (m : Pages) (area : Area) (n : ℕ) (t : Table) → n < 3 → length t ≡ D → Proper-table t → Settled-entries D m area t
+      → m .cell (trailer-at D area) ≡ settled (held (trailer-note D n) (trailer-data area D)) → m .cell (trailer-at D (other-area area)) ≡ settled blank
+      → Blank-from D m area 0 → Settled-backed D m t → Holds D m area n t
   -- a read, a sync and a power-on lose nothing
   pub reading : (m m′ : Pages) (area : Area) (n : ℕ) (t : Table) (p : ℕ) (buf after : List ℕ) (r : Result Note Fault)
       → Holds D m area n t → Reads m p buf r after m′ → Holds D m′ area n t
   pub syncing : (m m′ : Pages) (area : Area) (n : ℕ) (t : Table) (r : Result (Unit {0}) Fault) → Holds D m area n t → Syncs m r m′ → Holds D m′ area n t
   pub powering : (m m′ : Pages) (area : Area) (n : ℕ) (t : Table) (r : Result (Unit {0}) Fault) → Holds D m area n t → Powers m r m′ → Holds D m′ area n t
+  pub either-syncing : (m m′ : Pages) (area : Area) (n : ℕ) (t : Table) (area′ : Area) (n′ : ℕ) (t′ : Table) (r : Result (Unit {0}) Fault)
+      → Holds-either D m area n t area′ n′ t′ → Syncs m r m′ → Holds-either D m′ area n t area′ n′ t′
+  pub either-powering : (m m′ : Pages) (area : Area) (n : ℕ) (t : Table) (area′ : Area) (n′ : ℕ) (t′ : Table) (r : Result (Unit {0}) Fault)
+      → Holds-either D m area n t area′ n′ t′ → Powers m r m′ → Holds-either D m′ area n t area′ n′ t′

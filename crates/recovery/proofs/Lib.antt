@@ -1,5 +1,9 @@
 pub mod Lookwise
 pub mod Trailerwise
 pub mod Distinctness
+pub mod Pageful
+pub mod Datawise
+pub mod Logwise
 pub mod Stages
 pub mod OneAnswer
+pub mod Wholly

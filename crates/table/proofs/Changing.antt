@@ -9,7 +9,7 @@ use mathlib.Core.Path.{_≡_, refl, sym, ap, subst, _∙_}
 use native.Mathlib.Omega.{arith}
 use Rattle.std.proofs.shelf.Elements.{all-from-getD}
 use Rattle.std.proofs.shelf.Lists.{getD-past, getD-set-same, getD-set-other, length-set, length-map, ext-getD}
-use Rattle.std.proofs.shelf.Tests.{and-parts, ltb-true, both-ways, cases-bool, cases-eq, cases-lt, cond-true, cond-false, cond-both}
+use Rattle.std.proofs.shelf.Tests.{and-parts, ltb-true, eqb-true, both-ways, cases-bool, cases-eq, cases-lt, cond-true, cond-false, cond-both}
 use Rattle.std.specs.shelf.Lists.{All}
 use Rattle.std.specs.declared.option.Option.{Option}
 use Rattle.std.specs.declared.option.Option.the-variants.{Some, None}
@@ -21,23 +21,30 @@ use Rattle.layout.specs.declared.records.Record.the-variants.{PutClean, PutDirt
 use Rattle.layout.specs.Entries.{Address-fits, Proper-entry}
 use Rattle.layout.specs.Records.{Proper-record}
 use Rattle.table.specs.Tables.{Table, entry, empty, empty-table, has-mark, entry-at, marked-at, holds, held, mark-of, emptied, without, cleaned-entry, cleaned, entered, put, apply, next-table, replayed, Proper-table}
-use Rattle.table.specs.Views.{Alone-at, may-enter, Turns}
+use Rattle.table.specs.Views.{Alone-at, entry-with, remarked-entry, remarked, may-enter, Turns}
 use Rattle.table.proofs.Tablewise.{holds-parts, holds-from, held-at, unheld-at, unheld-from, holds-inside, mark-at, mark-unheld, held-fits, marked-fits, entry-proper}
 
 -- Entry by entry
 
+module _ (t : Table) (m : Mark) (a : ℕ) where
+  pub length-remarked : length (remarked t m a) ≡ length t
+  length-remarked = length-map t (remarked-entry m a)
+
+  pub remarked-at : (i : ℕ) → entry-at (remarked t m a) i ≡ remarked-entry m a (entry-at t i)
+  remarked-at i = List·getD-map (remarked-entry m a) t i empty
+
 module _ (t : Table) (a : ℕ) where
   pub length-without : length (without t a) ≡ length t
-  length-without = length-map t (emptied a)
+  length-without = length-remarked t Empty a
 
   pub length-cleaned : length (cleaned t a) ≡ length t
-  length-cleaned = length-map t (cleaned-entry a)
+  length-cleaned = length-remarked t Clean a
 
   pub without-at : (i : ℕ) → entry-at (without t a) i ≡ emptied a (entry-at t i)
-  without-at i = List·getD-map (emptied a) t i empty
+  without-at i = remarked-at t Empty a i
 
   pub cleaned-at : (i : ℕ) → entry-at (cleaned t a) i ≡ cleaned-entry a (entry-at t i)
-  cleaned-at i = List·getD-map (cleaned-entry a) t i empty
+  cleaned-at i = remarked-at t Clean a i
 
 module _ (t : Table) (p : ℕ) (m : Mark) (a : ℕ) where
   pub length-entered : length (entered t p m a) ≡ length t
@@ -51,7 +58,7 @@ module _ (t : Table) (p : ℕ) (m : Mark) (a : ℕ) where
 
 -- Who holds an address then
 
--- an emptied entry holds what it held, but not the address
+-- an emptied entry no longer holds the address
 pub emptied-not : (a : ℕ) (e : Entry) → holds a (emptied a e) ≡ false
 emptied-not a e =
     ⊎-elim
@@ -59,21 +66,19 @@ emptied-not a e =
     (λ n. ap (holds a) (cond-false (holds a e) empty e n) ∙ n)
     (cases-bool (holds a e))
 
-pub emptied-holds : (a b : ℕ) (e : Entry) → holds b (emptied a e) ≡ true → holds b e ≡ true
-emptied-holds a b e h =
-    ⊎-elim
-    (λ y. absurd (both-ways false refl (sym (ap (holds b) (cond-true (holds a e) empty e y)) ∙ h)))
-    (λ n. ap (holds b) (sym (cond-false (holds a e) empty e n)) ∙ h)
-    (cases-bool (holds a e))
+with-holds : (m : Mark) (a b : ℕ) → holds b (entry-with m a) ≡ true → a ≡ b
+with-holds Empty a b h = absurd (both-ways false refl h)
+with-holds Clean a b h = eqb-true a b h
+with-holds Dirty a b h = eqb-true a b h
 
--- marked clean, an entry holds what it held
-pub cleaned-holds : (a b : ℕ) (e : Entry) → holds b (cleaned-entry a e) ≡ true → holds b e ≡ true
-cleaned-holds a b e h =
+-- with another mark, an entry holds nothing that it did not hold
+pub remarked-holds : (m : Mark) (a b : ℕ) (e : Entry) → holds b (remarked-entry m a e) ≡ true → holds b e ≡ true
+remarked-holds m a b e h =
     ⊎-elim
-    (λ y. let p = holds-parts a e y in
-    let q = holds-parts b (entry Clean a) (ap (holds b) (sym (cond-true (holds a e) (entry Clean a) e y)) ∙ h) in
-    holds-from b e (p .0) (p .1 ∙ q .1))
-    (λ n. ap (holds b) (sym (cond-false (holds a e) (entry Clean a) e n)) ∙ h)
+    (λ y.
+    let p = holds-parts a e y in
+    holds-from b e (p .0) (p .1 ∙ with-holds m a b (ap (holds b) (sym (cond-true (holds a e) (entry-with m a) e y)) ∙ h)))
+    (λ n. ap (holds b) (sym (cond-false (holds a e) (entry-with m a) e n)) ∙ h)
     (cases-bool (holds a e))
 
 pub held-without : (t : Table) (a : ℕ) → held (without t a) a ≡ false
@@ -110,33 +115,37 @@ module _ (t : Table) (a p : ℕ) (only : Alone-at t a p) where
   others : (i : ℕ) → i ≢ p → holds a (entry-at t i) ≡ false
   others i ne = ⊎-elim (λ y. absurd (ne (only .alone i y))) (λ n. n) (cases-bool (holds a (entry-at t i)))
 
-  one-changed : (f : Entry → Entry) (e : Entry) (u : Table) → length u ≡ length t → ((i : ℕ) → entry-at u i ≡ f (entry-at t i)) → ((x : Entry) → holds a x ≡ true → f x ≡ e) → ((x : Entry) → holds a x ≡ false → f x ≡ x) → u ≡ set t p e
-  one-changed f e u len at there left =
-      ext-getD empty u (set t p e) (len ∙ sym (length-set t p e))
+  pub remarked-one : (m : Mark) → remarked t m a ≡ set t p (entry-with m a)
+  remarked-one m =
+      let e = entry-with m a in
+      ext-getD empty (remarked t m a) (set t p e) (length-remarked t m a ∙ sym (length-set t p e))
       (λ i l.
       ⊎-elim
-      (λ same. at i ∙ there (entry-at t i) (subst (λ k. holds a (entry-at t k) ≡ true) (sym same) (only .here)) ∙ sym (getD-set-same t p e empty (only .inside)) ∙ ap (entry-at (set t p e)) (sym same))
-      (λ ne. at i ∙ left (entry-at t i) (others i ne) ∙ sym (getD-set-other t p i e empty ne))
+      (λ same.
+      remarked-at t m a i
+      ∙ cond-true (holds a (entry-at t i)) e (entry-at t i) (subst (λ k. holds a (entry-at t k) ≡ true) (sym same) (only .here))
+      ∙ sym (getD-set-same t p e empty (only .inside))
+      ∙ ap (entry-at (set t p e)) (sym same))
+      (λ ne. remarked-at t m a i ∙ cond-false (holds a (entry-at t i)) e (entry-at t i) (others i ne) ∙ sym (getD-set-other t p i e empty ne))
       (cases-eq i p))
 
   pub without-one : without t a ≡ set t p empty
-  without-one =
-      one-changed (emptied a) empty (without t a) (length-without t a) (without-at t a) (λ x h. cond-true (holds a x) empty x h) (λ x h. cond-false (holds a x) empty x h)
+  without-one = remarked-one Empty
 
   pub cleaned-one : cleaned t a ≡ set t p (entry Clean a)
-  cleaned-one =
-      one-changed (cleaned-entry a) (entry Clean a) (cleaned t a) (length-cleaned t a) (cleaned-at t a) (λ x h. cond-true (holds a x) (entry Clean a) x h)
-      (λ x h. cond-false (holds a x) (entry Clean a) x h)
+  cleaned-one = remarked-one Clean
 
 module _ (t : Table) (a : ℕ) (unheld : held t a ≡ false) where
+  pub remarked-none : (m : Mark) → remarked t m a ≡ t
+  remarked-none m =
+      ext-getD empty (remarked t m a) t (length-remarked t m a)
+      (λ i l. remarked-at t m a i ∙ cond-false (holds a (entry-at t i)) (entry-with m a) (entry-at t i) (unheld-at t a i unheld))
+
   pub without-none : without t a ≡ t
-  without-none =
-      ext-getD empty (without t a) t (length-without t a) (λ i l. without-at t a i ∙ cond-false (holds a (entry-at t i)) empty (entry-at t i) (unheld-at t a i unheld))
+  without-none = remarked-none Empty
 
   pub cleaned-none : cleaned t a ≡ t
-  cleaned-none =
-      ext-getD empty (cleaned t a) t (length-cleaned t a)
-      (λ i l. cleaned-at t a i ∙ cond-false (holds a (entry-at t i)) (entry Clean a) (entry-at t i) (unheld-at t a i unheld))
+  cleaned-none = remarked-none Clean
 
 -- A proper table stays proper
 
@@ -144,38 +153,37 @@ pub empty-at : (n i : ℕ) → entry-at (empty-table n) i ≡ empty
 empty-at n i =
     ⊎-elim (λ l. getD-replicate n i empty empty l) (λ l. getD-past (empty-table n) i empty (omega (arith, length-replicate n empty))) (cases-lt i n)
 
--- each entry is proper, and holds no address that it did not hold in a proper table
-proper-by : (t u : Table) → Proper-table t → ((i : ℕ) → Proper-entry (entry-at u i)) → ((i b : ℕ) → holds b (entry-at u i) ≡ true → holds b (entry-at t i) ≡ true) → Proper-table u
-proper-by t u p each less =
-    record { entries = all-from-getD Proper-entry u empty (λ i l. each i); distinct = λ i j b h k. p .distinct i j b (less i b h) (less j b k) }
-
 pub empty-proper : (n : ℕ) → Proper-table (empty-table n)
 empty-proper n = record {
   entries = all-from-getD Proper-entry (empty-table n) empty (λ i l. subst Proper-entry (sym (empty-at n i)) refl);
   distinct = λ i j a h k. absurd (both-ways false refl (sym (ap (holds a) (empty-at n i)) ∙ h));
 }
 
-emptied-proper : (a : ℕ) (e : Entry) → Proper-entry e → Proper-entry (emptied a e)
-emptied-proper a e p = cond-both (holds a e) empty e Proper-entry (λ h. refl) (λ h. p)
+with-proper : (m : Mark) (a : ℕ) → a < 4294967296 → Proper-entry (entry-with m a)
+with-proper Empty a l = refl
+with-proper Clean a l = l
+with-proper Dirty a l = l
 
-cleaned-entry-proper : (a : ℕ) (e : Entry) → Proper-entry e → Proper-entry (cleaned-entry a e)
-cleaned-entry-proper a e p =
-    cond-both (holds a e) (entry Clean a) e Proper-entry
-    (λ h. let q = holds-parts a e h in let small = held-fits (e .mark) (e .address .0) (q .0) p in omega (arith, q .1))
+remarked-entry-proper : (m : Mark) (a : ℕ) (e : Entry) → Proper-entry e → Proper-entry (remarked-entry m a e)
+remarked-entry-proper m a e p =
+    cond-both (holds a e) (entry-with m a) e Proper-entry
+    (λ h. let q = holds-parts a e h in with-proper m a (subst (λ n. n < 4294967296) (q .1) (held-fits (e .mark) (e .address .0) (q .0) p)))
     (λ h. p)
 
 module _ (t : Table) (proper : Proper-table t) where
+  pub remarked-proper : (m : Mark) (a : ℕ) → Proper-table (remarked t m a)
+  remarked-proper m a =
+      let held-before : (i b : ℕ) → holds b (entry-at (remarked t m a) i) ≡ true → holds b (entry-at t i) ≡ true = λ i b h. remarked-holds m a b (entry-at t i) (ap (holds b) (sym (remarked-at t m a i)) ∙ h) in
+      record {
+        entries = all-from-getD Proper-entry (remarked t m a) empty (λ i l. subst Proper-entry (sym (remarked-at t m a i)) (remarked-entry-proper m a (entry-at t i) (entry-proper t i proper)));
+        distinct = λ i j b h k. proper .distinct i j b (held-before i b h) (held-before j b k);
+      }
+
   pub without-proper : (a : ℕ) → Proper-table (without t a)
-  without-proper a =
-      proper-by t (without t a) proper
-      (λ i. subst Proper-entry (sym (without-at t a i)) (emptied-proper a (entry-at t i) (entry-proper t i proper)))
-      (λ i b h. emptied-holds a b (entry-at t i) (ap (holds b) (sym (without-at t a i)) ∙ h))
+  without-proper a = remarked-proper Empty a
 
   pub cleaned-proper : (a : ℕ) → Proper-table (cleaned t a)
-  cleaned-proper a =
-      proper-by t (cleaned t a) proper
-      (λ i. subst Proper-entry (sym (cleaned-at t a i)) (cleaned-entry-proper a (entry-at t i) (entry-proper t i proper)))
-      (λ i b h. cleaned-holds a b (entry-at t i) (ap (holds b) (sym (cleaned-at t a i)) ∙ h))
+  cleaned-proper a = remarked-proper Clean a
 
   module _ (p : ℕ) (m : Mark) (a : ℕ) (inside : p < length t) (marked : has-mark m ≡ true) (small : a < 4294967296) where
     abbrev u : Table
@@ -185,7 +193,7 @@ module _ (t : Table) (proper : Proper-table t) where
     entered-entry i =
         ⊎-elim
         (λ same. subst (λ k. Proper-entry (entry-at u k)) (sym same) (subst Proper-entry (sym (entered-here t p m a inside)) (marked-fits m a marked small)))
-        (λ ne. subst Proper-entry (sym (entered-other t p m a i ne)) (emptied-proper a (entry-at t i) (entry-proper t i proper)))
+        (λ ne. subst Proper-entry (sym (entered-other t p m a i ne)) (remarked-entry-proper Empty a (entry-at t i) (entry-proper t i proper)))
         (cases-eq i p)
 
     -- a page that holds another address held it before
@@ -193,7 +201,7 @@ module _ (t : Table) (proper : Proper-table t) where
     entered-before i b ne h =
         ⊎-elim
         (λ same. absurd (ne (holds-parts b (entry m a) (ap (holds b) (sym (ap (entry-at u) same ∙ entered-here t p m a inside)) ∙ h) .1)))
-        (λ other. emptied-holds a b (entry-at t i) (ap (holds b) (sym (entered-other t p m a i other)) ∙ h))
+        (λ other. remarked-holds Empty a b (entry-at t i) (ap (holds b) (sym (entered-other t p m a i other)) ∙ h))
         (cases-eq i p)
 
     pub entered-proper : Proper-table u

@@ -8,12 +8,11 @@ use native.Mathlib.Omega.{arith}
 use Rattle.std.proofs.shelf.Lists.{length-take-le}
 use Rattle.layout.specs.declared.entries.Entry.{Entry}
 use Rattle.layout.specs.declared.entries.Mark.{Mark}
-use Rattle.layout.specs.declared.entries.Mark.the-variants.{Clean}
 use Rattle.table.specs.declared.mapping.MappingTable.{MappingTable}
-use Rattle.table.specs.Tables.{Table, entry, empty, without, cleaned, entered, Proper-table}
-use Rattle.table.specs.Views.{table-of, Alone-at}
+use Rattle.table.specs.Tables.{entry, without, entered, Proper-table}
+use Rattle.table.specs.Views.{table-of, Alone-at, entry-with, remarked}
 use Rattle.table.proofs.Tablewise.{proper-from}
-use Rattle.table.proofs.Changing.{without-one, cleaned-one, length-without}
+use Rattle.table.proofs.Changing.{remarked-one, length-without}
 
 pub table-proper : (m : MappingTable) → Proper-table (table-of m)
 table-proper m = proper-from (table-of m) (m .fit) (m .distinct)
@@ -22,14 +21,11 @@ pub table-length : (m : MappingTable) → length (table-of m) ≡ m .pages
 table-length m = length-take-le (m .pages) (m .entries) (omega (arith, m .whole, m .within))
 
 module _ (m : MappingTable) (a p : ℕ) (only : Alone-at (table-of m) a p) where
-  written : (e : Entry) → take (m .pages) (set (m .entries) p e) ≡ set (table-of m) p e
-  written e = take-set-lt (m .pages) (m .entries) p e (omega (arith, only .inside, table-length m))
-
-  pub emptied-there : take (m .pages) (set (m .entries) p empty) ≡ without (table-of m) a
-  emptied-there = written empty ∙ sym (without-one (table-of m) a p only)
-
-  pub cleaned-there : take (m .pages) (set (m .entries) p (entry Clean a)) ≡ cleaned (table-of m) a
-  cleaned-there = written (entry Clean a) ∙ sym (cleaned-one (table-of m) a p only)
+  pub remarked-there : (mark : Mark) (e : Entry) → e ≡ entry-with mark a → take (m .pages) (set (m .entries) p e) ≡ remarked (table-of m) mark a
+  remarked-there mark e is =
+      take-set-lt (m .pages) (m .entries) p e (omega (arith, only .inside, table-length m))
+      ∙ ap (set (table-of m) p) is
+      ∙ sym (remarked-one (table-of m) a p only mark)
 
 -- a page entered once the address is emptied
 pub entered-there : (m n : MappingTable) (p : ℕ) (mark : Mark) (a : ℕ) → table-of n ≡ without (table-of m) a → p < length (table-of m) → take (n .pages) (set (n .entries) p (entry mark a)) ≡ entered (table-of m) p mark a

@@ -12,12 +12,14 @@ use Rattle.std.specs.declared.result.Result.{Result}
 use Rattle.std.specs.declared.result.Result.the-variants.{Ok, Err}
 use Rattle.device.specs.declared.places.DataPage.{DataPage}
 use Rattle.device.specs.declared.places.EraseBlock.{EraseBlock}
+use Rattle.layout.specs.declared.entries.Entry.{Entry}
 use Rattle.layout.specs.declared.entries.Mark.{Mark}
+use Rattle.layout.specs.declared.entries.Mark.the-variants.{Empty, Clean, Dirty}
 use Rattle.layout.specs.declared.records.Record.{Record}
 use Rattle.layout.specs.Entries.{mark-number}
 use Rattle.table.specs.declared.changes.Breach.{Breach}
 use Rattle.table.specs.declared.mapping.MappingTable.{MappingTable}
-use Rattle.table.specs.Tables.{Table, entry-at, has-mark, marked-at, holds, held, mark-of, entered, apply}
+use Rattle.table.specs.Tables.{Table, entry, empty, entry-at, has-mark, marked-at, holds, held, mark-of, entered, apply}
 
 abbrev pub table-of : MappingTable → Table
 table-of m = take (m .pages) (m .entries)
@@ -36,6 +38,19 @@ Finds t a (Some p) = Alone-at t a (p .0)
 -- the numbers of the marks of n addresses from the first on
 abbrev pub marks-from : Table → ℕ → ℕ → List ℕ
 marks-from t first n = map (λ k. mark-number (mark-of t (first + k))) (counting 0 n)
+
+-- the entry of a page with this mark for an address, which it has only with a mark
+abbrev pub entry-with : Mark → ℕ → Entry
+entry-with Empty a = empty
+entry-with Clean a = entry Clean a
+entry-with Dirty a = entry Dirty a
+
+-- the page that holds the address has this mark then
+abbrev pub remarked-entry : Mark → ℕ → Entry → Entry
+remarked-entry mark a e = cond (holds a e) (entry-with mark a) e
+
+abbrev pub remarked : Table → Mark → ℕ → Table
+remarked t mark a = map (remarked-entry mark a) t
 
 -- a page enters an address only with a mark, if it is in the table and unmarked
 abbrev pub may-enter : Table → ℕ → Mark → Bool

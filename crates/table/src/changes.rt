@@ -4,7 +4,7 @@ ghost use mathlib.Core.Path.{_≡_};
 ghost use Rattle.std.specs.declared.option.Option.the-variants.{Some, None};
 ghost use Rattle.table.specs.Tables.{empty-table, held, without, cleaned, apply, replayed};
 ghost use Rattle.table.specs.Examples.{drop-five, after-puts, after-drop, After-two-puts};
-ghost use Rattle.table.specs.Views.{table-of, may-enter, enters, Turns, Applies};
+ghost use Rattle.table.specs.Views.{table-of, entry-with, remarked, may-enter, enters, Turns, Applies};
 use crate::lookups::EMPTY;
 use crate::lookups::is_marked;
 use crate::mapping::MappingTable;
@@ -24,13 +24,7 @@ impl MappingTable {
         ensures was { λ r. ⌜ r ≡ held (table-of (now (self .entry))) (address .0) ⌝ }
         ensures after { λ _. ⌜ table-of (now (self .exit)) ≡ without (table-of (now (self .entry))) (address .0) ⌝ }
     {
-        match self.find(address) {
-            Some(page) => {
-                self.entries[page.0 as usize] = EMPTY;
-                true
-            }
-            None => false,
-        }
+        self.remark(address, Mark::Empty)
     }
 
     // Marks the page that holds the address clean, and says whether there was one.
@@ -38,12 +32,17 @@ impl MappingTable {
         ensures was { λ r. ⌜ r ≡ held (table-of (now (self .entry))) (address .0) ⌝ }
         ensures after { λ _. ⌜ table-of (now (self .exit)) ≡ cleaned (table-of (now (self .entry))) (address .0) ⌝ }
     {
+        self.remark(address, Mark::Clean)
+    }
+
+    // Gives the page that holds the address this mark, and says whether there was one.
+    fn remark(&mut self, address: DiskAddress, mark: Mark) -> bool
+        ensures was { λ r. ⌜ r ≡ held (table-of (now (self .entry))) (address .0) ⌝ }
+        ensures after { λ _. ⌜ table-of (now (self .exit)) ≡ remarked (table-of (now (self .entry))) mark (address .0) ⌝ }
+    {
         match self.find(address) {
             Some(page) => {
-                self.entries[page.0 as usize] = Entry {
-                    mark: Mark::Clean,
-                    address,
-                };
+                self.entries[page.0 as usize] = entry_with(mark, address);
                 true
             }
             None => false,
@@ -91,6 +90,17 @@ impl MappingTable {
             Record::Drop(address) => self.empty_address(address),
             Record::MarkClean(address) => self.mark_clean(address),
         }
+    }
+}
+
+// The entry of a page with this mark for an address, which it has only with a mark.
+fn entry_with(mark: Mark, address: DiskAddress) -> Entry
+    ensures { λ r. ⌜ r ≡ entry-with mark (address .0) ⌝ }
+{
+    match mark {
+        Mark::Empty => EMPTY,
+        Mark::Clean => Entry { mark, address },
+        Mark::Dirty => Entry { mark, address },
     }
 }
 

@@ -1,11 +1,11 @@
 // What the mapping table says of a page and of an address.
-ghost use lib.ListN.{length, getD};
+ghost use lib.ListN.{length, getD, take};
 ghost use mathlib.Core.Bool.{cond};
 ghost use mathlib.Core.Path.{_≡_};
-ghost use Prim.Native.Nat.{ℕ, _+_, _<_};
+ghost use Prim.Native.Nat.{ℕ, _+_, _<_, _≤_};
 ghost use Rattle.layout.specs.Entries.{mark-number};
 ghost use Rattle.layout.specs.Geometry.{data-pages};
-ghost use Rattle.table.specs.Tables.{empty-table, has-mark, entry-at, holds, mark-of};
+ghost use Rattle.table.specs.Tables.{empty-table, has-mark, entry-at, holds, mark-of, Proper-table};
 ghost use Rattle.table.specs.Views.{table-of, Finds, marks-from};
 use crate::mapping::MappingTable;
 use device::DataPage;
@@ -25,10 +25,28 @@ impl MappingTable {
     pub fn empty(geometry: Geometry) -> MappingTable
         ensures { λ r. ⌜ table-of r ≡ empty-table (data-pages (geometry .blocks)) ⌝ }
     {
+        MappingTable::unmarked(geometry.data_pages())
+    }
+
+    // The table of so many pages, with no page marked.
+    fn unmarked(pages: u16) -> MappingTable
+        requires { ⌜ pages ≤ 448 ⌝ }
+        ensures { λ r. ⌜ table-of r ≡ empty-table pages ⌝ }
+    {
         MappingTable {
             entries: [EMPTY; 448],
-            pages: geometry.data_pages(),
+            pages,
         }
+    }
+
+    // The table with these entries, where those of the data pages are such as a table has.
+    pub fn of_entries(geometry: Geometry, entries: [Entry; 448]) -> MappingTable
+        requires whole { ⌜ length entries ≡ 448 ⌝ }
+        requires proper { ⌜ Proper-table (take (data-pages (geometry .blocks)) entries) ⌝ }
+        ensures { λ r. ⌜ table-of r ≡ take (data-pages (geometry .blocks)) entries ⌝ }
+    {
+        let pages = geometry.data_pages();
+        MappingTable { entries, pages }
     }
 
     // The number of data pages.
@@ -49,10 +67,9 @@ impl MappingTable {
     pub fn entry(&self, page: DataPage) -> Entry
         ensures { λ r. ⌜ r ≡ entry-at (table-of (now (self .entry))) (page .0) ⌝ }
     {
-        if page.0 < self.pages {
-            self.entries[page.0 as usize]
-        } else {
-            EMPTY
+        match self.as_slice().get(page.0 as usize) {
+            Some(e) => *e,
+            None => EMPTY,
         }
     }
 

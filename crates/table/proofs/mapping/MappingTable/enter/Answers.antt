@@ -36,6 +36,6 @@ returns c =
     let p = c .args .page .0 in
     let m = c .args .mark in
     let a = c .args .address .0 in
-    let may : may-enter (table-of s) p m ≡ true = sym (c .if-not-may-enter .ensures tt) in
+    let may : may-enter (table-of s) p m ≡ true = sym {a = true} {b = may-enter (table-of s) p m} (c .if-not-may-enter .ensures tt) in
     cond-true (may-enter (table-of s) p m) (Some (entered (table-of s) p m a)) None may
     ∙ ap Some (sym (entered-there s u p m a (c .empty-address .ensures .after) (enterable (table-of s) p m may .1)))

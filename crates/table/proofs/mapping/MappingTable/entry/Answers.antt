@@ -1,15 +1,14 @@
-use mathlib.Core.Path.{sym}
-use native.Mathlib.Omega.{arith}
-use Rattle.std.proofs.shelf.Lists.{getD-take}
-use Rattle.table.specs.Tables.{empty}
-use Rattle.table.proofs.Tablewise.{past-part}
+use Prim.Native.Nat.{_≤_}
+use borrow.Author.Needs.{needs}
+use lib.ListN.{length}
+use mathlib.Core.Path.{sym, ap, _∙_}
+use Rattle.std.proofs.shelf.Lists.{getD-past}
+use Rattle.table.specs.Tables.{empty, entry-at}
 use Rattle.table.proofs.mapping.MappingTable.entry.Needs as need
 
-pub returns-then-page-self : need.returns-then-page-self
-returns-then-page-self c =
-    let s = c .args .self .now in sym (getD-take (s .pages) (s .entries) (c .args .page .0) empty (c .if-page-self .taken))
-
-pub returns-else-page-self : need.returns-else-page-self
-returns-else-page-self c =
-    let s = c .args .self .now in
-    sym (past-part (s .pages) (s .entries) (c .args .page .0) (omega (arith, s .whole, s .within)) (c .if-page-self .left))
+pub returns-in-None : need.returns-in-None
+returns-in-None c =
+    let xs = c .as-slice .result .now in
+    let p = c .args .page .0 in
+    let past : length xs ≤ p = search needs in
+    sym (getD-past xs p empty past) ∙ ap (λ t. entry-at t p) (c .as-slice .ensures)
