@@ -7,3 +7,5 @@ pub mod Logwise
 pub mod Stages
 pub mod OneAnswer
 pub mod Wholly
+pub mod ReadBack
+pub mod Worked

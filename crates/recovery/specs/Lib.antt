@@ -6,3 +6,5 @@ pub mod Entering
 pub mod DataPages
 pub mod Logs
 pub mod Restoring
+pub mod RoundTrip
+pub mod Examples
