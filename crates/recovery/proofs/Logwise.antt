@@ -1,13 +1,15 @@
 -- Log pages, read one after another, and what their records make of the table.
 use Prim.Native.Nat.{ℕ, zero, suc, _+_, _<_, _≤_}
+use lib.Dec.{eqb}
 use lib.ListN.{length, getD, take, drop}
 use mathlib.Core.Bool.{Bool, true, false}
-use mathlib.Core.List.{List}
-use mathlib.Core.Logic.{_⊎_, inl, inr}
+use mathlib.Core.List.{List, [], _∷_}
+use mathlib.Core.Logic.{_⊎_, inl, inr, ⊎-elim}
 use mathlib.Core.Path.{_≡_, refl, sym, ap, ap₂, subst, _∙_}
 use native.Mathlib.Numerals.{add-one}
 use native.Mathlib.Omega.{arith}
-use Rattle.std.proofs.shelf.Lists.{at-drop-more, at-drop-all}
+use Rattle.std.proofs.shelf.Lists.{take-more, take-all, take-append-drop}
+use Rattle.std.proofs.shelf.Tests.{eq-eqb, ne-eqb, cases-eq}
 use Rattle.std.specs.Orderings.{When}
 use Rattle.std.specs.declared.option.Option.{Option}
 use Rattle.std.specs.declared.option.Option.the-variants.{Some, None}
@@ -21,23 +23,34 @@ use Rattle.layout.specs.Geometry.{log-pages, log-page-at}
 use Rattle.layout.specs.Pages.{Log-read}
 use Rattle.layout.proofs.Unique.{one-log}
 use Rattle.table.specs.Tables.{Table, apply, replayed, Proper-table}
-use Rattle.table.proofs.Changing.{replayed-breach, replayed-keeps}
+use Rattle.table.proofs.Changing.{replayed-append, replayed-breach, replayed-keeps}
 use Rattle.recovery.specs.Recovering.{cache-fault, Log-step, Logged}
 use Rattle.recovery.specs.Looking.{shown, Quiet, Lost}
 use Rattle.recovery.specs.Logs.{Replays, Unlogged}
 use Rattle.recovery.proofs.Lookwise.{quiet-shown}
 
--- Records: what is left of them makes of the table u what all of them make of t
-module _ (t u : Table) (rs : List Record) (i : ℕ) (so-far : replayed (Some u) (drop i rs) ≡ replayed (Some t) rs) where
-  pub replay-more : (v : Table) (d : Record) → i < length rs → apply u (getD rs i d) ≡ Some v → replayed (Some v) (drop (i + 1) rs) ≡ replayed (Some t) rs
-  replay-more v d l e = ap (λ o. replayed o (drop (i + 1) rs)) (sym e) ∙ sym (at-drop-more (replayed (Some u)) rs i d l) ∙ so-far
+-- Records replayed one after another: u is what the first k of them make of t.
+module _ (t u : Table) (rs : List Record) (k : ℕ) (so-far : replayed (Some t) (take k rs) ≡ Some u) where
+  replay-next : (d : Record) → k < length rs → replayed (Some t) (take (k + 1) rs) ≡ apply u (getD rs k d)
+  replay-next d l =
+      ap (replayed (Some t)) (take-more rs k d l) ∙ replayed-append (Some t) (take k rs) (getD rs k d ∷ []) ∙ ap (λ o. replayed o (getD rs k d ∷ [])) so-far
 
-  pub replay-stuck : (d : Record) → i < length rs → apply u (getD rs i d) ≡ None → replayed (Some t) rs ≡ None
-  replay-stuck d l e =
-      sym so-far ∙ at-drop-more (replayed (Some u)) rs i d l ∙ ap (λ o. replayed o (drop (i + 1) rs)) e ∙ replayed-breach (drop (i + 1) rs)
+  pub replay-more : (v : Table) (d : Record) → k < length rs → apply u (getD rs k d) ≡ Some v → replayed (Some t) (take (k + 1) rs) ≡ Some v
+  replay-more v d l e = replay-next d l ∙ e
 
-  pub replay-all : length rs ≤ i → replayed (Some t) rs ≡ Some u
-  replay-all l = sym so-far ∙ at-drop-all (replayed (Some u)) rs i l
+  pub replay-stuck : (d : Record) → k < length rs → apply u (getD rs k d) ≡ None → replayed (Some t) (take (k + 1) rs) ≡ None
+  replay-stuck d l e = replay-next d l ∙ e
+
+-- a count of records that fit says whether all do
+pub counted-replay : (t u : Table) (rs : List Record) (r n : ℕ) → length rs ≡ n → r ≤ length rs → replayed (Some t) (take r rs) ≡ Some u
+    → (r < length rs → replayed (Some t) (take (r + 1) rs) ≡ None) → When (eqb r n) (replayed (Some t) rs ≡ Some u) (replayed (Some t) rs ≡ None)
+counted-replay t u rs r n long few fit stuck =
+    ⊎-elim
+    (λ (e : r ≡ n). rw (eq-eqb r n e) (ap (replayed (Some t)) (sym (take-all r rs (omega arith))) ∙ fit))
+    (λ (ne : r ≡ n → ⊥). rw (ne-eqb r n ne)
+    (ap (replayed (Some t)) (sym (take-append-drop (r + 1) rs)) ∙ replayed-append (Some t) (take (r + 1) rs) (drop (r + 1) rs)
+    ∙ ap (λ o. replayed o (drop (r + 1) rs)) (stuck (omega arith)) ∙ replayed-breach (drop (r + 1) rs)))
+    (cases-eq r n)
 
 -- One page
 

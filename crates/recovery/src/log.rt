@@ -2,8 +2,8 @@
 ghost use mathlib.Core.Bool.{true};
 ghost use mathlib.Core.List.{List};
 ghost use mathlib.Core.Path.{_≡_};
-ghost use Prim.Native.Nat.{ℕ, _<_};
-ghost use lib.ListN.{length};
+ghost use Prim.Native.Nat.{ℕ, _+_, _<_, _≤_};
+ghost use lib.ListN.{length, take};
 ghost use Rattle.std.specs.Orderings.{When};
 ghost use Rattle.std.specs.declared.option.Option.the-variants.{Some, None};
 ghost use Rattle.device.specs.declared.faults.Refusal.the-variants.{Breach};
@@ -26,17 +26,19 @@ use layout::Geometry;
 use layout::Record;
 use table::MappingTable;
 
-// Applies the records in order, up to the first that does not fit the table; answers whether all do.
-fn replay(table: &mut MappingTable, records: &[Record]) -> bool
-    ensures { λ r. ⌜ When r (replayed (Some (table-of (now (table .entry)))) (now (records .entry)) ≡ Some (table-of (now (table .exit)))) (replayed (Some (table-of (now (table .entry)))) (now (records .entry)) ≡ None) ⌝ }
+// Applies the records in order, up to the first that does not fit the table; answers how many fit.
+fn replay(table: &mut MappingTable, records: &[Record]) -> usize
+    ensures few { λ r. ⌜ r ≤ length (now (records .entry)) ⌝ }
+    ensures fit { λ r. ⌜ replayed (Some (table-of (now (table .entry)))) (take r (now (records .entry))) ≡ Some (table-of (now (table .exit))) ⌝ }
+    ensures stuck { λ r. ⌜ (r < length (now (records .entry)) → replayed (Some (table-of (now (table .entry)))) (take (r + 1) (now (records .entry))) ≡ None) ⌝ }
 {
-    for record in records {
+    for (k, record) in records.iter().enumerate() {
         match table.apply(*record) {
             Ok(()) => {}
-            Err(_) => return false,
+            Err(_) => return k,
         }
     }
-    true
+    records.len()
 }
 
 // Applies the records of a held page; answers whether it is a log page, and its records fit the table.
@@ -46,7 +48,7 @@ fn replay_page(note: (u8, u8, u32), bytes: &[u8], table: &mut MappingTable) -> b
 {
     let mut records = [Record::Drop(DiskAddress(0)); 64];
     match layout::read_log(note, bytes, &mut records) {
-        Some(n) => replay(table, &records[0..n as usize]),
+        Some(n) => replay(table, &records[0..n as usize]) == n as usize,
         None => false,
     }
 }
