@@ -1,9 +1,9 @@
 -- What becomes of a table by a put, a drop and a mark: entry by entry, who holds an address then, and that it stays proper.
-use Prim.Native.Nat.{ℕ, zero, suc, _<_, _≤_}
-use lib.Dec.{eqb, ltb}
-use lib.ListN.{length, getD, set, List·getD-map, length-replicate, getD-replicate}
+use Prim.Native.Nat.{ℕ, _<_}
+use lib.Dec.{ltb}
+use lib.ListN.{length, set, List·getD-map, length-replicate, getD-replicate}
 use mathlib.Core.Bool.{Bool, true, false, cond, not, _&&_}
-use mathlib.Core.List.{List, [], _∷_, _++_, map}
+use mathlib.Core.List.{List, [], _∷_, _++_}
 use mathlib.Core.Logic.{_≢_, ⊎-elim}
 use mathlib.Core.Path.{_≡_, refl, sym, ap, subst, _∙_}
 use native.Mathlib.Omega.{arith}
@@ -18,11 +18,11 @@ use Rattle.layout.specs.declared.entries.Mark.{Mark}
 use Rattle.layout.specs.declared.entries.Mark.the-variants.{Empty, Clean, Dirty}
 use Rattle.layout.specs.declared.records.Record.{Record}
 use Rattle.layout.specs.declared.records.Record.the-variants.{PutClean, PutDirty, Drop, MarkClean}
-use Rattle.layout.specs.Entries.{Address-fits, Proper-entry}
+use Rattle.layout.specs.Entries.{Proper-entry}
 use Rattle.layout.specs.Records.{Proper-record}
 use Rattle.table.specs.Tables.{Table, entry, empty, empty-table, has-mark, entry-at, marked-at, holds, held, mark-of, emptied, without, cleaned-entry, cleaned, entered, put, apply, next-table, replayed, Proper-table}
 use Rattle.table.specs.Views.{Alone-at, entry-with, remarked-entry, remarked, may-enter, Turns}
-use Rattle.table.proofs.Tablewise.{holds-parts, holds-from, held-at, unheld-at, unheld-from, holds-inside, mark-at, mark-unheld, held-fits, marked-fits, entry-proper}
+use Rattle.table.proofs.Tablewise.{holds-parts, holds-from, held-at, unheld-at, unheld-from, mark-at, mark-unheld, held-fits, marked-fits, entry-proper}
 
 -- Entry by entry
 
@@ -66,7 +66,7 @@ emptied-not a e =
     (λ n. ap (holds a) (cond-false (holds a e) empty e n) ∙ n)
     (cases-bool (holds a e))
 
-with-holds : (m : Mark) (a b : ℕ) → holds b (entry-with m a) ≡ true → a ≡ b
+pub with-holds : (m : Mark) (a b : ℕ) → holds b (entry-with m a) ≡ true → a ≡ b
 with-holds Empty a b h = absurd (both-ways false refl h)
 with-holds Clean a b h = eqb-true a b h
 with-holds Dirty a b h = eqb-true a b h

@@ -1,15 +1,15 @@
 -- The choices: a page found going round, the pages of each erase block counted, and the cheapest block.
-use Prim.Native.Nat.{ℕ, zero, suc, _+_, _-_, _<_, _≤_}
+use Prim.Native.Nat.{ℕ, suc, _+_, _-_, _<_, _≤_}
 use lib.Dec.{eqb, leb, ltb}
-use lib.ListN.{length, getD, set, take}
+use lib.ListN.{length, set, take}
 use mathlib.Core.Bool.{Bool, true, false, cond, _&&_}
 use mathlib.Core.List.{List, [], _∷_, _++_}
-use mathlib.Core.Logic.{_≢_, ⊎-elim}
+use mathlib.Core.Logic.{⊎-elim}
 use mathlib.Core.Path.{_≡_, refl, sym, ap, ap₂, subst, _∙_}
 use native.Mathlib.Nat.{add-zero}
 use native.Mathlib.Omega.{arith}
 use Rattle.std.proofs.shelf.Lists.{getD-set-same, getD-set-other, length-take-le, take-all, take-more}
-use Rattle.std.proofs.shelf.Tests.{and-parts, and-from, and-left, and-cases, ltb-true, ltb-false, lt-ltb, le-ltb, le-leb, lt-leb, eq-eqb, ne-eqb, both-ways, cases-bool, cases-eq, cases-lt, cond-true, cond-false}
+use Rattle.std.proofs.shelf.Tests.{and-parts, and-cases, ltb-true, ltb-false, le-leb, lt-leb, eq-eqb, ne-eqb, both-ways, cases-bool, cases-eq, cases-lt, cond-true, cond-false}
 use Rattle.std.specs.declared.option.Option.{Option}
 use Rattle.std.specs.declared.option.Option.the-variants.{Some, None}
 use Rattle.device.specs.declared.places.DataPage.{DataPage}
@@ -21,7 +21,7 @@ use Rattle.table.specs.declared.choices.Usage.{Usage}
 use Rattle.table.specs.declared.choices.Candidate.{Candidate}
 use Rattle.table.specs.declared.choices.Purpose.{Purpose}
 use Rattle.table.specs.Tables.{Table, empty, has-mark, is-dirty, entry-at}
-use Rattle.table.specs.Choices.{steps-to, First-round, Finds-round, tally, marked-in, dirty-in, Cheapest, Chooses}
+use Rattle.table.specs.Choices.{steps-to, First-round, Finds-round, tally, Cheapest, Chooses}
 use Rattle.table.specs.Usages.{usage, usage-at, usage-in, one-more, fit-for, cost-for, cheaper, weighed, First-from, Finds-from}
 use Rattle.table.specs.Views.{page-number}
 

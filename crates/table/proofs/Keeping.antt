@@ -1,8 +1,7 @@
 -- The table in memory: it is proper, and what a write to its array makes of the table.
-use Prim.Native.Nat.{ℕ, _<_, _≤_}
+use Prim.Native.Nat.{ℕ, _<_}
 use lib.ListN.{length, set, take}
 use lib.Seq.{take-set-lt}
-use mathlib.Core.List.{List}
 use mathlib.Core.Path.{_≡_, sym, ap, _∙_}
 use native.Mathlib.Omega.{arith}
 use Rattle.std.proofs.shelf.Lists.{length-take-le}

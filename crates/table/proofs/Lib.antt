@@ -3,3 +3,4 @@ pub mod Changing
 pub mod Keeping
 pub mod Marking
 pub mod Choosing
+pub mod Elsewhere

@@ -1,23 +1,20 @@
 -- Laws of the table: what each change makes of an entry, who holds an address then, and that a proper table stays proper.
 use Prim.Native.Nat.{ℕ, zero, suc, _<_, _≤_}
-use lib.Dec.{eqb, ltb}
-use lib.ListN.{length, getD, take}
-use mathlib.Core.Bool.{Bool, true, false, cond, not, _&&_, _||_}
-use mathlib.Core.List.{List, [], _∷_, map}
-use mathlib.Core.Logic.{_≢_, _⊎_, inl, inr, ⊎-elim}
+use lib.Dec.{eqb}
+use lib.ListN.{length, take}
+use mathlib.Core.Bool.{true, false}
+use mathlib.Core.List.{List, [], _∷_}
+use mathlib.Core.Logic.{_⊎_, ⊎-elim}
 use mathlib.Core.Path.{_≡_, refl, sym, ap, subst, _∙_}
 use native.Mathlib.Omega.{arith}
 use Rattle.std.proofs.shelf.Elements.{all-getD, all-from-getD}
 use Rattle.std.proofs.shelf.Lists.{getD-past, length-take-le}
-use Rattle.std.proofs.shelf.Tests.{and-parts, and-from, or-cases, or-parts, or-from, or-left, or-right, eqb-true, eq-eqb, ltb-true, lt-ltb, both-ways, cases-bool, cases-eq, cases-lt, cond-true, cond-false}
-use Rattle.std.specs.declared.option.Option.{Option}
-use Rattle.std.specs.declared.option.Option.the-variants.{Some, None}
+use Rattle.std.proofs.shelf.Tests.{and-parts, and-from, or-cases, or-parts, or-left, or-right, eqb-true, eq-eqb, ltb-true, lt-ltb, both-ways, cases-bool, cases-lt, cond-true, cond-false}
 use Rattle.layout.specs.declared.entries.Entry.{Entry}
 use Rattle.layout.specs.declared.entries.Mark.{Mark}
 use Rattle.layout.specs.declared.entries.Mark.the-variants.{Empty, Clean, Dirty}
 use Rattle.layout.specs.Entries.{Address-fits, Proper-entry}
-use Rattle.table.specs.Tables.{Table, entry, empty, empty-table, has-mark, entry-at, marked-at, holds, held, mark-of, emptied, without, cleaned-entry, cleaned, entered, Proper-table, address-fits, clash, All-fit, All-distinct}
-use Rattle.table.specs.Views.{Alone-at}
+use Rattle.table.specs.Tables.{Table, entry, empty, has-mark, entry-at, holds, held, mark-of, Proper-table, address-fits, All-fit, All-distinct}
 
 -- An entry that holds an address
 

@@ -1,10 +1,8 @@
 // The choices that the mapping table makes: a page to write, an erase block to reclaim, an erase block to write back.
-ghost use lib.Dec.{ltb};
 ghost use lib.ListN.{length, getD};
-ghost use mathlib.Core.Bool.{cond, false};
+ghost use mathlib.Core.Bool.{false};
 ghost use mathlib.Core.Path.{_≡_};
 ghost use Prim.Native.Nat.{ℕ, _+_, _<_, _≤_};
-ghost use Rattle.table.specs.Tables.{has-mark, is-dirty};
 ghost use Rattle.table.specs.Choices.{Finds-round, Chooses, Victim, To-write-back};
 ghost use Rattle.table.specs.Usages.{usage-at, usage-in, one-more, fit-for, cost-for, Finds-from, weighed};
 ghost use Rattle.table.specs.Views.{table-of, page-number, block-number};

@@ -1,5 +1,4 @@
-use Prim.Native.Nat.{_<_, _≤_}
-use lib.ListN.{length, getD-replicate}
+use lib.ListN.{getD-replicate}
 use mathlib.Core.Path.{_≡_, refl, ap, _∙_}
 use native.Mathlib.Omega.{arith}
 use Rattle.std.proofs.shelf.Lists.{length-set}

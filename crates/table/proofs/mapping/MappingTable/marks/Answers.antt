@@ -1,8 +1,8 @@
-use lib.ListN.{length, getD}
+use lib.ListN.{length}
 use mathlib.Core.Path.{_≡_, sym, subst, _∙_}
 use native.Mathlib.Omega.{arith}
-use Rattle.table.specs.Tables.{Table, Proper-table}
-use Rattle.table.specs.Views.{table-of, marks-from}
+use Rattle.table.specs.Tables.{Proper-table}
+use Rattle.table.specs.Views.{marks-from}
 use Rattle.table.proofs.Keeping.{table-proper}
 use Rattle.table.proofs.Marking.{marks-more, marks-all}
 use Rattle.table.proofs.mapping.MappingTable.marks.Needs as need
