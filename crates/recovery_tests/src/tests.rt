@@ -1,0 +1,49 @@
+// The tests, each over its rows.
+use crate::cases::Case;
+use crate::cases::try_case;
+use crate::data_rows::DATA;
+use crate::entry_rows::ENTRIES;
+use crate::log_rows::LOGS;
+use crate::log_rows::REPLAYS;
+use crate::size_rows::SIZES;
+use crate::trailer_rows::TRAILERS;
+use std::alloc::Global;
+use std::test::*;
+
+// Tries cases in turn.
+fn try_cases(heap: Global, cases: &[Case]) -> Result<(), Fail> {
+    for (k, case) in cases.iter().enumerate() {
+        try_case(heap, case).note(format_args!("row {k}"))?;
+    }
+    Ok(())
+}
+
+#[test]
+fn trailers(rt: LibcRuntime) -> Result<(), Fail> {
+    try_cases(rt.alloc(), TRAILERS)
+}
+
+#[test]
+fn entry_pages(rt: LibcRuntime) -> Result<(), Fail> {
+    try_cases(rt.alloc(), ENTRIES)
+}
+
+#[test]
+fn replays(rt: LibcRuntime) -> Result<(), Fail> {
+    try_cases(rt.alloc(), REPLAYS)
+}
+
+#[test]
+fn log_pages(rt: LibcRuntime) -> Result<(), Fail> {
+    try_cases(rt.alloc(), LOGS)
+}
+
+#[test]
+fn data_pages(rt: LibcRuntime) -> Result<(), Fail> {
+    try_cases(rt.alloc(), DATA)
+}
+
+#[test]
+fn sizes(rt: LibcRuntime) -> Result<(), Fail> {
+    try_cases(rt.alloc(), SIZES)
+}
