@@ -39,7 +39,7 @@ fn dump_chip<C: Chip>(rt: &impl Print, chip: &mut C) -> io::Result<()>
     ensures sound { λ _. ⌜ C·Chip .sound (now (chip .exit)) ⌝ }
 {
     let blocks = chip.blocks();
-    println!(rt, "chip: {blocks} erase blocks of 8 pages")?;
+    println!(rt, "erase blocks: {blocks}, of 8 chip pages each")?;
     match Geometry::new(blocks) {
         Ok(geometry) => say_contents(rt, chip, geometry),
         Err(fault) => say_refused(rt, fault),

@@ -29,7 +29,7 @@ fn say_meaning(rt: &impl Print, fault: Fault) -> io::Result<()> {
         ),
         Refusal::NoCheckpoint => println!(
             rt,
-            "meaning: the chip was never formed, or its form did not finish"
+            "meaning: the chip was never formed, or forming it did not finish"
         ),
         Refusal::Breach => say_breach(rt, fault.layer, fault.place),
         Refusal::BadGeometry => println!(
