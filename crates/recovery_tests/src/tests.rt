@@ -7,6 +7,8 @@ use crate::log_rows::LOGS;
 use crate::log_rows::REPLAYS;
 use crate::size_rows::SIZES;
 use crate::trailer_rows::TRAILERS;
+use crate::written::WRITTEN;
+use crate::written::try_size;
 use std::alloc::Global;
 use std::test::*;
 
@@ -46,4 +48,12 @@ fn data_pages(rt: LibcRuntime) -> Result<(), Fail> {
 #[test]
 fn sizes(rt: LibcRuntime) -> Result<(), Fail> {
     try_cases(rt.alloc(), SIZES)
+}
+
+#[test]
+fn full_tables_and_logs(rt: LibcRuntime) -> Result<(), Fail> {
+    for (k, size) in WRITTEN.iter().enumerate() {
+        try_size(rt.alloc(), size).note(format_args!("row {k}"))?;
+    }
+    Ok(())
 }
