@@ -82,7 +82,7 @@ fn fill_entries(table: &mut [Entry], marked: &mut [Marked]) {
 }
 
 // Every data page marked.
-pub(super) fn try_full_table(heap: Global, geometry: Geometry, area: Area) -> Result<(), Fail> {
+fn try_full_table(heap: Global, geometry: Geometry, area: Area) -> Result<(), Fail> {
     let pages = geometry.data_pages();
     let count = (pages as usize).min(448);
     let mut table = [Entry::empty(); 448];
@@ -142,25 +142,64 @@ fn fill_marked(marked: &mut [Marked], table: &mut [Entry], first: u32) {
     }
 }
 
-// Every log page full, behind an empty table. The addresses that the log's last page leaves begin at `first`.
-pub(super) fn try_full_log(
+// Gives a page another state.
+fn set_state(image: &mut [u8], page: ChipPage, state: u8) {
+    let at = 520 * page.0 as usize;
+    if at < image.len() {
+        image[at] = state;
+    }
+}
+
+// What a full log of so many pages leaves, where page `j` is held (1), blank (0) or torn. Every page but the last takes back
+// what it puts, so only the last one can be missed; and a blank one there is the next log page.
+fn left_by<'a>(area: Area, pages: u8, j: u8, state: u8, marked: &'a [Marked]) -> Answer<'a> {
+    if state == 1 || j as u16 + 1 < pages as u16 {
+        Answer::Found(area, 0, pages, marked)
+    } else if state == 0 {
+        Answer::Found(area, 0, j, &[])
+    } else {
+        Answer::Found(area, 0, pages, &[])
+    }
+}
+
+// Every log page full, behind an empty table, and then page `j` in this state. The addresses that the last page leaves begin at
+// `first`.
+fn try_log(
     heap: Global,
     geometry: Geometry,
     area: Area,
     first: u32,
+    j: u8,
+    state: u8,
 ) -> Result<(), Fail> {
     let pages = geometry.data_pages();
-    let count = (pages as usize).min(448);
     let empty = [Entry::empty(); 448];
     let mut left = [Entry::empty(); 32];
     let mut marked = [Marked(0, 0, 0); 32];
     fill_marked(&mut marked, &mut left, first);
     let mut image = vec![in heap; 0; BLOCK * geometry.blocks() as usize]?;
-    lay_checkpoint(image.as_mut_slice(), geometry, area, 0, &empty[0..count]);
+    lay_checkpoint(
+        image.as_mut_slice(),
+        geometry,
+        area,
+        0,
+        &empty[0..(pages as usize).min(448)],
+    );
     lay_log(image.as_mut_slice(), geometry, area);
     lay_data_pages(image.as_mut_slice(), &left);
-    let answer = Answer::Found(area, 0, geometry.log_pages(), &marked);
+    set_state(image.as_mut_slice(), geometry.log_page(area, j), state);
+    let answer = left_by(area, geometry.log_pages(), j, state, &marked);
     check_image(image.as_mut_slice(), pages, answer)
+}
+
+// A full log, and each of its pages blank and torn.
+fn try_logs(heap: Global, geometry: Geometry, area: Area, first: u32) -> Result<(), Fail> {
+    try_log(heap, geometry, area, first, 0, 1)?;
+    for j in 0..geometry.log_pages() {
+        try_log(heap, geometry, area, first, j, 0).note(format_args!("log page {j} blank"))?;
+        try_log(heap, geometry, area, first, j, 2).note(format_args!("log page {j} torn"))?;
+    }
+    Ok(())
 }
 
 // A chip of so many erase blocks, with its log pages and the first address that the last of them leaves.
@@ -172,8 +211,8 @@ pub(super) const WRITTEN: &[Size] = &[Size(12, 30, 2900), Size(17, 29, 2800), Si
 fn try_areas(heap: Global, geometry: Geometry, first: u32) -> Result<(), Fail> {
     try_full_table(heap, geometry, Area::One).note("full table, area one")?;
     try_full_table(heap, geometry, Area::Two).note("full table, area two")?;
-    try_full_log(heap, geometry, Area::One, first).note("full log, area one")?;
-    try_full_log(heap, geometry, Area::Two, first).note("full log, area two")
+    try_logs(heap, geometry, Area::One, first).note("full log, area one")?;
+    try_logs(heap, geometry, Area::Two, first).note("full log, area two")
 }
 
 // Tries a size.
