@@ -99,36 +99,54 @@ fn check_found(found: &Restored, pages: u16, answer: Answer) -> Result<(), Fail>
     }
 }
 
-// Puts a chip on and recovers from it.
-fn recovered<C: Chip>(chip: &mut C) -> Result<Restored, Fault>
+// Recovers from a chip, put on before or not.
+fn recovered<C: Chip>(chip: &mut C, on: bool) -> Result<Restored, Fault>
     requires { ⌜ C·Chip .sound (now chip) ⌝ }
 {
-    chip.power_on()?;
+    if on {
+        chip.power_on()?;
+    }
     recovery::recover(chip)
 }
 
 // Recovers from an image.
-fn recovered_from<'a>(image: &'a mut [u8], fuses: &'a [u32]) -> Result<Restored, Fault> {
+fn recovered_from<'a>(image: &'a mut [u8], fuses: &'a [u32], on: bool) -> Result<Restored, Fault> {
     match ImageChip::new(image, fuses) {
-        Ok(mut chip) => recovered(&mut chip),
+        Ok(mut chip) => recovered(&mut chip, on),
         Err(unfit) => Err(unfit.fault),
     }
 }
 
 // Recovers from an image, and checks the answer.
 pub(super) fn check_image(image: &mut [u8], pages: u16, answer: Answer) -> Result<(), Fail> {
-    match recovered_from(image, &[]) {
+    match recovered_from(image, &[], true) {
         Ok(found) => check_found(&found, pages, answer),
         Err(fault) => check_refused(fault, answer),
     }
 }
 
-// Tries a case.
+// Tries a case, and a second time: the answer is the same, and no byte of the image changes.
 pub(super) fn try_case(heap: Global, case: &Case) -> Result<(), Fail> {
     let Case(blocks, base, over, answer) = case;
     let mut image = vec![in heap; 0; BLOCK * *blocks as usize]?;
     lay(image.as_mut_slice(), base);
     lay(image.as_mut_slice(), over);
     let pages = 8 * (*blocks as u16).saturating_sub(8);
-    check_image(image.as_mut_slice(), pages, *answer)
+    check_image(image.as_mut_slice(), pages, *answer)?;
+    let copy = image.clone()?;
+    check_image(image.as_mut_slice(), pages, *answer).note("the second time")?;
+    check(image == copy).note("the image afterwards")
+}
+
+// A chip that was not put on: its erase blocks, and the refusal.
+pub(super) struct Off(pub u8, pub Answer<'static>);
+
+// Tries a chip that was not put on.
+pub(super) fn try_off(heap: Global, off: &Off) -> Result<(), Fail> {
+    let Off(blocks, answer) = off;
+    let mut image = vec![in heap; 0; BLOCK * *blocks as usize]?;
+    match recovered_from(image.as_mut_slice(), &[], false) {
+        Ok(_) => Err(Fail::new("nothing was refused")),
+        Err(fault) => check_refused(fault, *answer),
+    }
 }

@@ -15,3 +15,5 @@ mod size_rows;
 mod tests;
 #[cfg(test)]
 mod trailer_rows;
+#[cfg(test)]
+mod written;

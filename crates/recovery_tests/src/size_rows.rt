@@ -4,6 +4,7 @@ use crate::cases::Answer::Found;
 use crate::cases::Answer::Refused;
 use crate::cases::Case;
 use crate::cases::Marked;
+use crate::cases::Off;
 use crate::frames::At;
 use crate::frames::BLANK;
 use crate::frames::BYTES;
@@ -49,6 +50,8 @@ pub(super) const SIZES: &[Case<'static>] = &[
         &[],
         Refused(12, 2, 0),
     ),
+    // too many are no image chip
+    Case(65, &[], &[], Refused(2, 1, 0)),
     // the smallest chip, and those where another entry page begins
     Case(
         12,
@@ -382,4 +385,12 @@ pub(super) const SIZES: &[Case<'static>] = &[
         ],
         Refused(11, 2, 256),
     ),
+];
+
+// A chip that is off: the size is judged first, then the first look at a trailer finds no power.
+pub(super) const OFF: &[Off] = &[
+    Off(11, Refused(12, 2, 0)),
+    Off(12, Refused(1, 1, 1)),
+    Off(17, Refused(1, 1, 2)),
+    Off(64, Refused(1, 1, 7)),
 ];
