@@ -52,8 +52,8 @@ def defined(root):
                 declared = body or "ruleset" in words or re.match(r"\s*:", rest)
                 if declared and not (in_proof and MADE.search(line)):
                     add(name, path)
-            elif body:
-                field = re.match(rf"\s+(?:pub\s+)?({IDENT}(?:\s+{IDENT})*)\s*:", line)
+            elif body or re.match(rf"\s+(?:(?:pub|abbrev|unfoldable)\s+)*[A-Za-z][^\s(){{}}\[\];,.:]*\s*:\s", line):
+                field = re.match(rf"\s+(?:(?:pub|abbrev|unfoldable)\s+)*({IDENT}(?:\s+{IDENT})*)\s*:", line)
                 if field:
                     for name in field.group(1).split():
                         add(name, path)

@@ -20,7 +20,7 @@ use Rattle.journal.specs.Notes.{noted, pages_of}
 use Rattle.journal.specs.Steps.{Fails}
 use Rattle.engine.specs.Works.{Holding, Writes, Fetches, Evicts, Cleans}
 use Rattle.cache.specs.Refusals.{unless_off, write_refusal, held_refusal, read_refusal, off_by, off_after}
-use Rattle.cache.specs.Caches.{chip-of, view_of, Sound, Write-call, Read-call, Evict-call, Clean-work, Clean-call}
+use Rattle.cache.specs.Caches.{chip_of, view_of, Sound, WriteCall, ReadCall, EvictCall, CleanWork, CleanCall}
 
 -- Which refusal applies.
 
@@ -49,16 +49,16 @@ module _ (t u : Table) (a p : ℕ) (e : Entry) (at : AloneAt t a p) (same : u �
   as_read : e ≡ entry_at t p
   as_read = read ∙ ap (λ v. entry_at v p) same
 
-  pub found-mark : mark_of t a ≡ e.mark
-  found-mark = mark_at t a p at.here at.alone ∙ ap (λ x. x.mark) (sym as_read)
+  pub found_mark : mark_of t a ≡ e.mark
+  found_mark = mark_at t a p at.here at.alone ∙ ap (λ x. x.mark) (sym as_read)
 
-  found-marked : e.mark ≡ Empty → ⊥
-  found-marked none =
+  found_marked : e.mark ≡ Empty → ⊥
+  found_marked none =
       both_ways (has_mark e.mark) (ap has_mark none) (holds_parts a e (subst (λ x. holds a x ≡ true) (sym as_read) at.here)).0
 
-  pub found-clean : (e.mark ≡ Clean) ⊎ (e.mark ≡ Empty) → mark_of t a ≡ Clean
-  found-clean (inl clean) = found-mark ∙ clean
-  found-clean (inr none) = absurd (found-marked none)
+  pub found_clean : (e.mark ≡ Clean) ⊎ (e.mark ≡ Empty) → mark_of t a ≡ Clean
+  found_clean (inl clean) = found_mark ∙ clean
+  found_clean (inr none) = absurd (found_marked none)
 
 -- power that failed puts a cache off
 lost_off : (f : Fault) (m : Pages) → Lost f m → off_by f ≡ Some f
@@ -80,25 +80,25 @@ module _ {C : Type 0} (meaning : C → Pages) (good : C → Type 0) where
     abbrev Kept : Table → Type 0
     Kept t = Holding (pages_of c.journal) (meaning ch) (noted j) sp t
 
-    fits_after : (meaning ch).size ≡ (chip-of meaning c).size → (meaning ch).size ≡ j.geometry.blocks
+    fits_after : (meaning ch).size ≡ (chip_of meaning c).size → (meaning ch).size ≡ j.geometry.blocks
     fits_after e = e ∙ s.fits ∙ ap (λ g. g.blocks) (sym size)
 
     -- a table that the chip holds keeps the cache sound
-    sound-on : (r : Result (Unit {0}) Fault) → (meaning ch).size ≡ (chip-of meaning c).size → (t : Table) × Kept t → Sound meaning good (after ch j sp r)
-    sound-on r e h = record {
+    sound_on : (r : Result (Unit {0}) Fault) → (meaning ch).size ≡ (chip_of meaning c).size → (t : Table) × Kept t → Sound meaning good (after ch j sp r)
+    sound_on r e h = record {
       chip = still;
       fits = fits_after e;
       on = λ _. (h.0, subst (λ D. Holding D (meaning ch) (noted j) sp h.0) (ap (λ g. data_pages g.blocks) (sym size)) h.1);
     }
 
-    sound-served : {Commits : Table → Table → Type 0} (r : Result (Unit {0}) Fault) → (meaning ch).size ≡ (chip-of meaning c).size
-        → ((t : Table) → Holding (pages_of c.journal) (chip-of meaning c) (view_of meaning c) c.space t → (u : Table) × Kept u × Commits t u)
+    sound_served : {Commits : Table → Table → Type 0} (r : Result (Unit {0}) Fault) → (meaning ch).size ≡ (chip_of meaning c).size
+        → ((t : Table) → Holding (pages_of c.journal) (chip_of meaning c) (view_of meaning c) c.space t → (u : Table) × Kept u × Commits t u)
         → Sound meaning good (after ch j sp r)
-    sound-served r e k = let t = s.on on in let u = k t.0 t.1 in sound-on r e (u.0, u.1)
+    sound_served r e k = let t = s.on on in let u = k t.0 t.1 in sound_on r e (u.0, u.1)
 
     -- with power gone it is off, and keeps only its chip
-    sound-off : (f : Fault) → Fails (chip-of meaning c) f (meaning ch) → Sound meaning good (after ch j sp (Err f))
-    sound-off f h = record { chip = still; fits = fits_after h.size; on = λ e. absurd (never (sym (lost_off f (meaning ch) h.lost) ∙ e)) }
+    sound_off : (f : Fault) → Fails (chip_of meaning c) f (meaning ch) → Sound meaning good (after ch j sp (Err f))
+    sound_off f h = record { chip = still; fits = fits_after h.size; on = λ e. absurd (never (sym (lost_off f (meaning ch) h.lost) ∙ e)) }
 
     -- the answer is handed on
     handed : (What : Result (Unit {0}) Fault → Cache C → Type 0) (r r' : Result (Unit {0}) Fault) (d : Cache C) → r' ≡ r → d ≡ after ch j sp r
@@ -109,22 +109,22 @@ module _ {C : Type 0} (meaning : C → Pages) (good : C → Type 0) where
   module _ (c : Cache C) (s : Sound meaning good c) (on : c.off ≡ None) (ch : C) (j : Journal) (sp : Space) (still : good ch) (size : j.geometry ≡ c.journal.geometry) where
     module _ (dirty : Bool) (a : ℕ) (bytes : List ℕ) (whole : write_refusal None a (length bytes) ≡ None) where
       abbrev Work : Result (Unit {0}) Fault → Type 0
-      Work r = Writes (pages_of c.journal) c.journal.geometry.blocks dirty a bytes (chip-of meaning c) (view_of meaning c) c.space r (meaning ch) (noted j) sp
+      Work r = Writes (pages_of c.journal) c.journal.geometry.blocks dirty a bytes (chip_of meaning c) (view_of meaning c) c.space r (meaning ch) (noted j) sp
 
       writable : write_refusal c.off a (length bytes) ≡ None
       writable = ap (λ o. write_refusal o a (length bytes)) on ∙ whole
 
-      write-after : (r : Result (Unit {0}) Fault) → Work r → Sound meaning good (after ch j sp r) × Write-call meaning dirty a bytes c r (after ch j sp r)
-      write-after (Ok x) w = (sound-served c s on ch j sp still size (Ok x) w.4.0 w.4.2, (writable, refl, w))
-      write-after (Err f) (inl (e, k, same, view, space)) = (
-        sound-on c s on ch j sp still size (Err f) (ap (λ m. m.size) same)
+      write_after : (r : Result (Unit {0}) Fault) → Work r → Sound meaning good (after ch j sp r) × WriteCall meaning dirty a bytes c r (after ch j sp r)
+      write_after (Ok x) w = (sound_served c s on ch j sp still size (Ok x) w.4.0 w.4.2, (writable, refl, w))
+      write_after (Err f) (inl (e, k, same, view, space)) = (
+        sound_on c s on ch j sp still size (Err f) (ap (λ m. m.size) same)
             (subst₃ (λ m v w. (t : Table) × Holding (pages_of c.journal) m v w t) (sym same) (sym view) (sym space) (s.on on)),
         inr (writable, refl, inl (e, k, same, view, space)),
       )
-      write-after (Err f) (inr w) = (sound-off c s on ch j sp still size f w.0, inr (writable, refl, inr w))
+      write_after (Err f) (inr w) = (sound_off c s on ch j sp still size f w.0, inr (writable, refl, inr w))
 
-      pub write_done : (r r' : Result (Unit {0}) Fault) (d : Cache C) → r' ≡ r → d ≡ after ch j sp r → Work r → Done c d (Write-call meaning dirty a bytes c r' d)
-      write_done r r' d e k w = handed c s on ch j sp still size (Write-call meaning dirty a bytes c) r r' d e k (write-after r w)
+      pub write_done : (r r' : Result (Unit {0}) Fault) (d : Cache C) → r' ≡ r → d ≡ after ch j sp r → Work r → Done c d (WriteCall meaning dirty a bytes c r' d)
+      write_done r r' d e k w = handed c s on ch j sp still size (WriteCall meaning dirty a bytes c) r r' d e k (write_after r w)
 
   -- Evict and clean, of an address that is held.
   module _ (c : Cache C) (s : Sound meaning good c) (on : c.off ≡ None) (ch : C) (j : Journal) (still : good ch) (size : j.geometry ≡ c.journal.geometry) where
@@ -132,54 +132,54 @@ module _ {C : Type 0} (meaning : C → Pages) (good : C → Type 0) where
       allowed : unless_off c.off (held_refusal (view_of meaning c).table a) ≡ None
       allowed = on_refusal c.off _ on here
 
-      evict-after : (r : Result (Unit {0}) Fault) → Evicts (pages_of c.journal) a (chip-of meaning c) (view_of meaning c) c.space r (meaning ch) (noted j)
-          → Sound meaning good (after ch j c.space r) × Evict-call meaning a c r (after ch j c.space r)
-      evict-after (Ok x) w = (sound-served c s on ch j c.space still size (Ok x) w.0 w.2, (allowed, refl, (w, refl)))
-      evict-after (Err f) w = (sound-off c s on ch j c.space still size f w.0, inr (allowed, refl, (w, refl)))
+      evict_after : (r : Result (Unit {0}) Fault) → Evicts (pages_of c.journal) a (chip_of meaning c) (view_of meaning c) c.space r (meaning ch) (noted j)
+          → Sound meaning good (after ch j c.space r) × EvictCall meaning a c r (after ch j c.space r)
+      evict_after (Ok x) w = (sound_served c s on ch j c.space still size (Ok x) w.0 w.2, (allowed, refl, (w, refl)))
+      evict_after (Err f) w = (sound_off c s on ch j c.space still size f w.0, inr (allowed, refl, (w, refl)))
 
-      pub evict-done : (r r' : Result (Unit {0}) Fault) (d : Cache C) → r' ≡ r → d ≡ after ch j c.space r
-          → Evicts (pages_of c.journal) a (chip-of meaning c) (view_of meaning c) c.space r (meaning ch) (noted j) → Done c d (Evict-call meaning a c r' d)
-      evict-done r r' d e k w = handed c s on ch j c.space still size (Evict-call meaning a c) r r' d e k (evict-after r w)
+      pub evict_done : (r r' : Result (Unit {0}) Fault) (d : Cache C) → r' ≡ r → d ≡ after ch j c.space r
+          → Evicts (pages_of c.journal) a (chip_of meaning c) (view_of meaning c) c.space r (meaning ch) (noted j) → Done c d (EvictCall meaning a c r' d)
+      evict_done r r' d e k w = handed c s on ch j c.space still size (EvictCall meaning a c) r r' d e k (evict_after r w)
 
       module _ (dirty : mark_of (view_of meaning c).table a ≡ Dirty) where
         abbrev Cleaning : Result (Unit {0}) Fault → Type 0
-        Cleaning r = Cleans (pages_of c.journal) a (chip-of meaning c) (view_of meaning c) c.space r (meaning ch) (noted j)
+        Cleaning r = Cleans (pages_of c.journal) a (chip_of meaning c) (view_of meaning c) c.space r (meaning ch) (noted j)
 
-        clean-work : (r : Result (Unit {0}) Fault) → Cleaning r → Clean-work meaning (mark_of (view_of meaning c).table a) a c r (after ch j c.space r)
-        clean-work r w = subst (λ z. Clean-work meaning z a c r (after ch j c.space r)) (sym dirty) (w, refl)
+        clean_work : (r : Result (Unit {0}) Fault) → Cleaning r → CleanWork meaning (mark_of (view_of meaning c).table a) a c r (after ch j c.space r)
+        clean_work r w = subst (λ z. CleanWork meaning z a c r (after ch j c.space r)) (sym dirty) (w, refl)
 
-        clean_after : (r : Result (Unit {0}) Fault) → Cleaning r → Sound meaning good (after ch j c.space r) × Clean-call meaning a c r (after ch j c.space r)
-        clean_after (Ok x) w = (sound-served c s on ch j c.space still size (Ok x) w.0 w.2, (allowed, refl, clean-work (Ok x) w))
-        clean_after (Err f) w = (sound-off c s on ch j c.space still size f w.0, inr (allowed, refl, clean-work (Err f) w))
+        clean_after : (r : Result (Unit {0}) Fault) → Cleaning r → Sound meaning good (after ch j c.space r) × CleanCall meaning a c r (after ch j c.space r)
+        clean_after (Ok x) w = (sound_served c s on ch j c.space still size (Ok x) w.0 w.2, (allowed, refl, clean_work (Ok x) w))
+        clean_after (Err f) w = (sound_off c s on ch j c.space still size f w.0, inr (allowed, refl, clean_work (Err f) w))
 
-        pub clean-done : (r r' : Result (Unit {0}) Fault) (d : Cache C) → r' ≡ r → d ≡ after ch j c.space r → Cleaning r → Done c d (Clean-call meaning a c r' d)
-        clean-done r r' d e k w = handed c s on ch j c.space still size (Clean-call meaning a c) r r' d e k (clean_after r w)
+        pub clean_done : (r r' : Result (Unit {0}) Fault) (d : Cache C) → r' ≡ r → d ≡ after ch j c.space r → Cleaning r → Done c d (CleanCall meaning a c r' d)
+        clean_done r r' d e k w = handed c s on ch j c.space still size (CleanCall meaning a c) r r' d e k (clean_after r w)
 
   -- of a clean address there is nothing to do
-  pub clean-done-already : (c : Cache C) → Sound meaning good c → c.off ≡ None → (a : ℕ) → held_refusal (view_of meaning c).table a ≡ None
-      → mark_of (view_of meaning c).table a ≡ Clean → Done c c (Clean-call meaning a c (Ok tt) c)
-  clean-done-already c s on a here clean = record {
+  pub clean_done_already : (c : Cache C) → Sound meaning good c → c.off ≡ None → (a : ℕ) → held_refusal (view_of meaning c).table a ≡ None
+      → mark_of (view_of meaning c).table a ≡ Clean → Done c c (CleanCall meaning a c (Ok tt) c)
+  clean_done_already c s on a here clean = record {
     sound = s;
     size = refl;
-    call = (on_refusal c.off _ on here, on, subst (λ z. Clean-work meaning z a c (Ok tt) c) (sym clean) (refl, refl));
+    call = (on_refusal c.off _ on here, on, subst (λ z. CleanWork meaning z a c (Ok tt) c) (sym clean) (refl, refl));
   }
 
   -- Read.
   module _ (c : Cache C) (s : Sound meaning good c) (on : c.off ≡ None) (ch : C) (still : good ch) where
     module _ (a : ℕ) (buf : List ℕ) (whole : write_refusal None a (length buf) ≡ None) (here : held_refusal (view_of meaning c).table a ≡ None) (out : List ℕ) where
       abbrev Fetching : Result (Unit {0}) Fault → Type 0
-      Fetching r = Fetches (pages_of c.journal) a (chip-of meaning c) (view_of meaning c) c.space buf r out (meaning ch)
+      Fetching r = Fetches (pages_of c.journal) a (chip_of meaning c) (view_of meaning c) c.space buf r out (meaning ch)
 
       readable : read_refusal c.off (view_of meaning c).table a (length buf) ≡ None
       readable = read_allowed c.off (view_of meaning c).table a (length buf) on whole here
 
-      read-after : (r : Result (Unit {0}) Fault) → Fetching r
-          → Sound meaning good (after ch c.journal c.space r) × Read-call meaning a buf c r out (after ch c.journal c.space r)
-      read-after (Ok x) w = (
-        (let t = s.on on in sound-on c s on ch c.journal c.space still refl (Ok x) w.0.size (t.0, w.2 t.0 t.1)),
+      read_after : (r : Result (Unit {0}) Fault) → Fetching r
+          → Sound meaning good (after ch c.journal c.space r) × ReadCall meaning a buf c r out (after ch c.journal c.space r)
+      read_after (Ok x) w = (
+        (let t = s.on on in sound_on c s on ch c.journal c.space still refl (Ok x) w.0.size (t.0, w.2 t.0 t.1)),
         (readable, refl, (w, refl, refl)),
       )
-      read-after (Err f) w = (sound-off c s on ch c.journal c.space still refl f w.1, (w.0, inr (readable, refl, w)))
+      read_after (Err f) w = (sound_off c s on ch c.journal c.space still refl f w.1, (w.0, inr (readable, refl, w)))
 
-      pub read_done : (r r' : Result (Unit {0}) Fault) (d : Cache C) → r' ≡ r → d ≡ after ch c.journal c.space r → Fetching r → Done c d (Read-call meaning a buf c r' out d)
-      read_done r r' d e k w = handed c s on ch c.journal c.space still refl (λ x. Read-call meaning a buf c x out) r r' d e k (read-after r w)
+      pub read_done : (r r' : Result (Unit {0}) Fault) (d : Cache C) → r' ≡ r → d ≡ after ch c.journal c.space r → Fetching r → Done c d (ReadCall meaning a buf c r' out d)
+      read_done r r' d e k w = handed c s on ch c.journal c.space still refl (λ x. ReadCall meaning a buf c x out) r r' d e k (read_after r w)

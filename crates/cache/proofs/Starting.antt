@@ -12,7 +12,7 @@ use Rattle.cache.specs.declared.working.Cache.{Cache}
 use Rattle.journal.specs.Notes.{noted, pages_of}
 use Rattle.journal.specs.Steps.{Fails}
 use Rattle.engine.specs.Works.{Holding, Woken, StaysDark, Begun}
-use Rattle.cache.specs.Caches.{chip-of, Sound, Power-call, bare-chip, Ready-to-open, Bare-sound, Granted, Form-call, Adopt-call}
+use Rattle.cache.specs.Caches.{chip_of, Sound, PowerCall, bare_chip, Ready-to-open, Bare-sound, Granted, FormCall, AdoptCall}
 use Rattle.cache.proofs.Calling.{never, Done}
 
 -- what is in an option is one thing
@@ -24,12 +24,12 @@ module _ {C : Type 0} (meaning : C → Pages) (good : C → Type 0) where
   abbrev pub dark : Cache C → C → Fault → Cache C
   dark c ch f = record { chip = ch; journal = c.journal; space = c.space; off = Some f }
 
-  pub power-refused : (c : Cache C) → Sound meaning good c → (ch : C) → good ch → (size : Geometry) → size ≡ c.journal.geometry → (f : Fault)
-      → StaysDark (data_pages size.blocks) (chip-of meaning c) f (meaning ch) → Done meaning good c (dark c ch f) (Power-call meaning c (Err f) (dark c ch f))
-  power-refused c s ch still size same f h = record {
+  pub power_refused : (c : Cache C) → Sound meaning good c → (ch : C) → good ch → (size : Geometry) → size ≡ c.journal.geometry → (f : Fault)
+      → StaysDark (data_pages size.blocks) (chip_of meaning c) f (meaning ch) → Done meaning good c (dark c ch f) (PowerCall meaning c (Err f) (dark c ch f))
+  power_refused c s ch still size same f h = record {
     sound = record { chip = still; fits = h.0 ∙ s.fits; on = λ e. absurd (never e) };
     size = refl;
-    call = (refl, subst (λ k. StaysDark (data_pages k.blocks) (chip-of meaning c) f (meaning ch)) same h, refl, refl);
+    call = (refl, subst (λ k. StaysDark (data_pages k.blocks) (chip_of meaning c) f (meaning ch)) same h, refl, refl);
   }
 
   -- Form and adopt.
@@ -38,9 +38,9 @@ module _ {C : Type 0} (meaning : C → Pages) (good : C → Type 0) where
     pub call : What
 
   -- a bare cache that keeps what was found is sound
-  kept-sound : (d : BareCache C) (ch : C) (w : Memory) → d.chip ≡ ch → d.memory ≡ Some w → good ch → (meaning ch).size ≡ w.journal.geometry.blocks
+  kept_sound : (d : BareCache C) (ch : C) (w : Memory) → d.chip ≡ ch → d.memory ≡ Some w → good ch → (meaning ch).size ≡ w.journal.geometry.blocks
       → (t : Table) → Holding (pages_of w.journal) (meaning ch) (noted w.journal) w.space t → Bare-sound meaning good d
-  kept-sound d ch w chip memory still fits t h = record {
+  kept_sound d ch w chip memory still fits t h = record {
     chip = subst good (sym chip) still;
     memory = λ v e. subst (Ready-to-open meaning d) (same_in memory e) (record {
       fits = ap (λ x. (meaning x).size) chip ∙ fits;
@@ -48,44 +48,44 @@ module _ {C : Type 0} (meaning : C → Pages) (good : C → Type 0) where
     });
   }
 
-  module _ (b : BareCache C) (size : Geometry) (allowed : geometry_refusal (bare-chip meaning b).size ≡ None) (fits : size.blocks ≡ (bare-chip meaning b).size) (ch : C) (still : good ch) where
+  module _ (b : BareCache C) (size : Geometry) (allowed : geometry_refusal (bare_chip meaning b).size ≡ None) (fits : size.blocks ≡ (bare_chip meaning b).size) (ch : C) (still : good ch) where
     -- what was found is kept, and a permit granted for it
     module _ (w : Memory) (own : w.journal.geometry ≡ size) (d : BareCache C) (p : Permit) (chip : d.chip ≡ ch) (memory : d.memory ≡ Some w) (number : p.number ≡ d.number) where
-      fits-own : (meaning ch).size ≡ (bare-chip meaning b).size → (meaning ch).size ≡ w.journal.geometry.blocks
-      fits-own e = e ∙ sym fits ∙ ap (λ g. g.blocks) (sym own)
+      fits_own : (meaning ch).size ≡ (bare_chip meaning b).size → (meaning ch).size ≡ w.journal.geometry.blocks
+      fits_own e = e ∙ sym fits ∙ ap (λ g. g.blocks) (sym own)
 
-      found-sound : (meaning ch).size ≡ (bare-chip meaning b).size → (t : Table) → Holding (data_pages size.blocks) (meaning ch) (noted w.journal) w.space t → Bare-sound meaning good d
-      found-sound e t h =
-          kept-sound d ch w chip memory still (fits-own e) t
+      found_sound : (meaning ch).size ≡ (bare_chip meaning b).size → (t : Table) → Holding (data_pages size.blocks) (meaning ch) (noted w.journal) w.space t → Bare-sound meaning good d
+      found_sound e t h =
+          kept_sound d ch w chip memory still (fits_own e) t
           (subst (λ g. Holding (data_pages g.blocks) (meaning ch) (noted w.journal) w.space t) (sym own) h)
 
       granted : Granted meaning d p
       granted = record { this = number; formed = (w, memory) }
 
-      pub adopted : Woken (data_pages size.blocks) (bare-chip meaning b) (meaning ch) w.journal w.space → Started d (Adopt-call meaning b (Ok p) d)
+      pub adopted : Woken (data_pages size.blocks) (bare_chip meaning b) (meaning ch) w.journal w.space → Started d (AdoptCall meaning b (Ok p) d)
       adopted h = record {
-        sound = found-sound h.size (noted w.journal).table h.holding;
-        call = (allowed, granted, (w, memory, subst₂ (λ n x. Woken (data_pages n) (bare-chip meaning b) (meaning x) w.journal w.space) fits (sym chip) h));
+        sound = found_sound h.size (noted w.journal).table h.holding;
+        call = (allowed, granted, (w, memory, subst₂ (λ n x. Woken (data_pages n) (bare_chip meaning b) (meaning x) w.journal w.space) fits (sym chip) h));
       }
 
-      pub formed : Begun (data_pages size.blocks) (bare-chip meaning b) (meaning ch) w.journal w.space → Started d (Form-call meaning b (Ok p) d)
+      pub formed : Begun (data_pages size.blocks) (bare_chip meaning b) (meaning ch) w.journal w.space → Started d (FormCall meaning b (Ok p) d)
       formed h = record {
-        sound = found-sound h.size (noted w.journal).table h.holding;
-        call = (allowed, granted, (w, memory, subst₂ (λ n x. Begun (data_pages n) (bare-chip meaning b) (meaning x) w.journal w.space) fits (sym chip) h));
+        sound = found_sound h.size (noted w.journal).table h.holding;
+        call = (allowed, granted, (w, memory, subst₂ (λ n x. Begun (data_pages n) (bare_chip meaning b) (meaning x) w.journal w.space) fits (sym chip) h));
       }
 
     -- a refusal leaves nothing found
     abbrev pub bared : BareCache C
     bared = record { chip = ch; memory = None; number = b.number }
 
-    bared-sound : Bare-sound meaning good bared
-    bared-sound = record { chip = still; memory = λ w e. absurd (never (sym e)) }
+    bared_sound : Bare-sound meaning good bared
+    bared_sound = record { chip = still; memory = λ w e. absurd (never (sym e)) }
 
     module _ (f : Fault) (r : Result Permit Fault) (answer : r ≡ Err f) where
-      pub not-adopted : StaysDark (data_pages size.blocks) (bare-chip meaning b) f (meaning ch) → Started bared (Adopt-call meaning b r bared)
-      not-adopted h =
-          subst (λ x. Started bared (Adopt-call meaning b x bared)) (sym answer)
-          (record { sound = bared-sound; call = inr (allowed, refl, subst (λ n. StaysDark (data_pages n) (bare-chip meaning b) f (meaning ch)) fits h) })
+      pub not_adopted : StaysDark (data_pages size.blocks) (bare_chip meaning b) f (meaning ch) → Started bared (AdoptCall meaning b r bared)
+      not_adopted h =
+          subst (λ x. Started bared (AdoptCall meaning b x bared)) (sym answer)
+          (record { sound = bared_sound; call = inr (allowed, refl, subst (λ n. StaysDark (data_pages n) (bare_chip meaning b) f (meaning ch)) fits h) })
 
-      pub not-formed : Fails (bare-chip meaning b) f (meaning ch) → Started bared (Form-call meaning b r bared)
-      not-formed h = subst (λ x. Started bared (Form-call meaning b x bared)) (sym answer) (record { sound = bared-sound; call = inr (allowed, refl, h) })
+      pub not_formed : Fails (bare_chip meaning b) f (meaning ch) → Started bared (FormCall meaning b r bared)
+      not_formed h = subst (λ x. Started bared (FormCall meaning b x bared)) (sym answer) (record { sound = bared_sound; call = inr (allowed, refl, h) })

@@ -1,7 +1,7 @@
 // A cache on a chip that is not known to be formed. It takes form and adopt only.
 ghost use Rattle.std.specs.Prelude.{◌≡◌, Some};
 ghost use Rattle.engine.specs.declared.powering.Memory.{Memory};
-ghost use Rattle.cache.specs.Caches.{Bare-sound, Granted, Sound, Form-call, Adopt-call, Opens};
+ghost use Rattle.cache.specs.Caches.{Bare-sound, Granted, Sound, FormCall, AdoptCall, Opens};
 
 use crate::working::Cache;
 use device::{Chip, Fault};
@@ -39,7 +39,7 @@ impl<C: Chip> BareCache<C> {
     pub fn form(&mut self) -> Result<Permit, Fault>
         requires { Bare-sound C.Chip.meaning C.Chip.sound self.old }
         ensures sound { Bare-sound C.Chip.meaning C.Chip.sound self.new }
-        ensures forms { Form-call C.Chip.meaning self.old result self.new }
+        ensures forms { FormCall C.Chip.meaning self.old result self.new }
     {
         let geometry = Geometry::new(self.chip.blocks())?;
         self.memory = None; // nothing is granted until the form is served
@@ -51,7 +51,7 @@ impl<C: Chip> BareCache<C> {
     pub fn adopt(&mut self) -> Result<Permit, Fault>
         requires { Bare-sound C.Chip.meaning C.Chip.sound self.old }
         ensures sound { Bare-sound C.Chip.meaning C.Chip.sound self.new }
-        ensures adopts { Adopt-call C.Chip.meaning self.old result self.new }
+        ensures adopts { AdoptCall C.Chip.meaning self.old result self.new }
     {
         let geometry = Geometry::new(self.chip.blocks())?;
         self.memory = None; // nothing is granted until the adopt is served

@@ -1,6 +1,6 @@
 // The calls of a working cache.
 ghost use Rattle.std.specs.Prelude.{◌≡◌, true, false, length};
-ghost use Rattle.cache.specs.Caches.{Sound, Write-call, Read-call, Evict-call, Clean-call, Exists-call, Sync-call, Power-call};
+ghost use Rattle.cache.specs.Caches.{Sound, WriteCall, ReadCall, EvictCall, CleanCall, ExistsCall, SyncCall, PowerCall};
 
 use crate::checks::{check_block, check_marks};
 use crate::working::Cache;
@@ -14,7 +14,7 @@ impl<C: Chip> Cache<C> {
         requires { Sound C.Chip.meaning C.Chip.sound self.old }
         ensures sound { Sound C.Chip.meaning C.Chip.sound self.new }
         ensures size { self.new.journal.geometry ≡ self.old.journal.geometry }
-        ensures call { Write-call C.Chip.meaning true address.0 bytes.now self.old result self.new }
+        ensures call { WriteCall C.Chip.meaning true address.0 bytes.now self.old result self.new }
     {
         self.write(true, address, bytes)
     }
@@ -24,7 +24,7 @@ impl<C: Chip> Cache<C> {
         requires { Sound C.Chip.meaning C.Chip.sound self.old }
         ensures sound { Sound C.Chip.meaning C.Chip.sound self.new }
         ensures size { self.new.journal.geometry ≡ self.old.journal.geometry }
-        ensures call { Write-call C.Chip.meaning false address.0 bytes.now self.old result self.new }
+        ensures call { WriteCall C.Chip.meaning false address.0 bytes.now self.old result self.new }
     {
         self.write(false, address, bytes)
     }
@@ -33,7 +33,7 @@ impl<C: Chip> Cache<C> {
         requires { Sound C.Chip.meaning C.Chip.sound self.old }
         ensures sound { Sound C.Chip.meaning C.Chip.sound self.new }
         ensures size { self.new.journal.geometry ≡ self.old.journal.geometry }
-        ensures call { Write-call C.Chip.meaning dirty address.0 bytes.now self.old result self.new }
+        ensures call { WriteCall C.Chip.meaning dirty address.0 bytes.now self.old result self.new }
     {
         self.awake()?;
         check_block(address, bytes.len())?;
@@ -53,7 +53,7 @@ impl<C: Chip> Cache<C> {
         requires { Sound C.Chip.meaning C.Chip.sound self.old }
         ensures sound { Sound C.Chip.meaning C.Chip.sound self.new }
         ensures size { self.new.journal.geometry ≡ self.old.journal.geometry }
-        ensures call { Read-call C.Chip.meaning address.0 buf.old self.old result buf.new self.new }
+        ensures call { ReadCall C.Chip.meaning address.0 buf.old self.old result buf.new self.new }
     {
         self.awake()?;
         check_block(address, buf.len())?;
@@ -74,7 +74,7 @@ impl<C: Chip> Cache<C> {
         requires { Sound C.Chip.meaning C.Chip.sound self.old }
         ensures sound { Sound C.Chip.meaning C.Chip.sound self.new }
         ensures size { self.new.journal.geometry ≡ self.old.journal.geometry }
-        ensures call { Evict-call C.Chip.meaning address.0 self.old result self.new }
+        ensures call { EvictCall C.Chip.meaning address.0 self.old result self.new }
     {
         self.awake()?;
         self.page_of(address)?;
@@ -87,7 +87,7 @@ impl<C: Chip> Cache<C> {
         requires { Sound C.Chip.meaning C.Chip.sound self.old }
         ensures sound { Sound C.Chip.meaning C.Chip.sound self.new }
         ensures size { self.new.journal.geometry ≡ self.old.journal.geometry }
-        ensures call { Clean-call C.Chip.meaning address.0 self.old result self.new }
+        ensures call { CleanCall C.Chip.meaning address.0 self.old result self.new }
     {
         self.awake()?;
         let page = self.page_of(address)?;
@@ -103,7 +103,7 @@ impl<C: Chip> Cache<C> {
     // Fills the buffer with the marks of as many addresses from the first on: 0 not held, 1 clean, 2 dirty.
     pub fn exists(&self, first: DiskAddress, marks: &mut [u8]) -> Result<(), Fault>
         requires { Sound C.Chip.meaning C.Chip.sound self.now }
-        ensures { Exists-call C.Chip.meaning first.0 marks.old self.now result marks.new }
+        ensures { ExistsCall C.Chip.meaning first.0 marks.old self.now result marks.new }
     {
         self.awake()?;
         check_marks(first, marks.len())?;
@@ -116,7 +116,7 @@ impl<C: Chip> Cache<C> {
         requires { Sound C.Chip.meaning C.Chip.sound self.old }
         ensures sound { Sound C.Chip.meaning C.Chip.sound self.new }
         ensures size { self.new.journal.geometry ≡ self.old.journal.geometry }
-        ensures call { Sync-call C.Chip.meaning self.old result self.new }
+        ensures call { SyncCall C.Chip.meaning self.old result self.new }
     {
         self.awake()?;
         let answer = engine::flush(&mut self.chip, &mut self.journal, &self.space);
@@ -128,7 +128,7 @@ impl<C: Chip> Cache<C> {
         requires { Sound C.Chip.meaning C.Chip.sound self.old }
         ensures sound { Sound C.Chip.meaning C.Chip.sound self.new }
         ensures size { self.new.journal.geometry ≡ self.old.journal.geometry }
-        ensures call { Power-call C.Chip.meaning self.old result self.new }
+        ensures call { PowerCall C.Chip.meaning self.old result self.new }
     {
         let geometry = self.journal.geometry();
         match engine::wake(&mut self.chip, geometry) {

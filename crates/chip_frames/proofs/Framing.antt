@@ -8,17 +8,17 @@ use Rattle.chip_frames.specs.Frames.{be32, note_at, data_at}
 
 -- An element of a list with a part written over: ys, of k, at a.
 module _ (a k : ℕ) (xs ys : List ℕ) (inside : a + k ≤ length xs) (whole : length ys ≡ k) where
-  pub mid-below : (n : ℕ) → n < a → get_or (put_mid a k xs ys) n 0 ≡ get_or xs n 0
-  mid-below n h = search (rules, places)
+  pub mid_below : (n : ℕ) → n < a → get_or (put_mid a k xs ys) n 0 ≡ get_or xs n 0
+  mid_below n h = search (rules, places)
 
-  pub mid-above : (n : ℕ) → a + k ≤ n → get_or (put_mid a k xs ys) n 0 ≡ get_or xs n 0
-  mid-above n h = search (rules, places)
+  pub mid_above : (n : ℕ) → a + k ≤ n → get_or (put_mid a k xs ys) n 0 ≡ get_or xs n 0
+  mid_above n h = search (rules, places)
 
-  pub mid-within : (n j : ℕ) → n ≡ a + j → j < k → get_or (put_mid a k xs ys) n 0 ≡ get_or ys j 0
-  mid-within n j e h = search (rules, places)
+  pub mid_within : (n j : ℕ) → n ≡ a + j → j < k → get_or (put_mid a k xs ys) n 0 ≡ get_or ys j 0
+  mid_within n j e h = search (rules, places)
 
-  pub mid-length : length (put_mid a k xs ys) ≡ length xs
-  mid-length = search (rules, places)
+  pub mid_length : length (put_mid a k xs ys) ≡ length xs
+  mid_length = search (rules, places)
 
 -- the four bytes of an address, most significant first, give it back
 pub be32_back : (n : ℕ) → n < 4294967296 → be32 (n / 16777216 % 256) (n / 65536 % 256) (n / 256 % 256) (n % 256) ≡ n
@@ -31,32 +31,32 @@ module _ (xs head bytes : List ℕ) (i k₁ k₂ : ℕ) (e₁ : k₁ ≡ 8) (e�
   abbrev written : List ℕ
   written = put_mid (i + 8) k₂ (put_mid i k₁ xs head) bytes
 
-  pub written-head : (n j : ℕ) → n ≡ i + j → j < 8 → get_or written n 0 ≡ get_or head j 0
-  written-head n j e l =
-      let m = mid-length i k₁ xs head (omega arith) (omega arith) in
-      mid-below (i + 8) k₂ (put_mid i k₁ xs head) bytes (omega arith) (omega arith) n (omega arith)
-      ∙ mid-within i k₁ xs head (omega arith) (omega arith) n j e (omega arith)
+  pub written_head : (n j : ℕ) → n ≡ i + j → j < 8 → get_or written n 0 ≡ get_or head j 0
+  written_head n j e l =
+      let m = mid_length i k₁ xs head (omega arith) (omega arith) in
+      mid_below (i + 8) k₂ (put_mid i k₁ xs head) bytes (omega arith) (omega arith) n (omega arith)
+      ∙ mid_within i k₁ xs head (omega arith) (omega arith) n j e (omega arith)
 
-  pub written-note : (s f kind count n : ℕ) → n < 4294967296 → head ≡ s ∷ f ∷ kind ∷ count ∷ (n / 16777216 % 256) ∷ (n / 65536 % 256) ∷ (n / 256 % 256) ∷ (n % 256) ∷ [] → note_at written i ≡ (kind, count, n)
+  pub written_note : (s f kind count n : ℕ) → n < 4294967296 → head ≡ s ∷ f ∷ kind ∷ count ∷ (n / 16777216 % 256) ∷ (n / 65536 % 256) ∷ (n / 256 % 256) ∷ (n % 256) ∷ [] → note_at written i ≡ (kind, count, n)
   unfolding note_at
-  written-note s f kind count n l e =
-      let at : (j : ℕ) → j < 8 → get_or written (i + j) 0 ≡ get_or (s ∷ f ∷ kind ∷ count ∷ (n / 16777216 % 256) ∷ (n / 65536 % 256) ∷ (n / 256 % 256) ∷ (n % 256) ∷ []) j 0 = (λ j h. written-head (i + j) j refl h ∙ ap (λ z. get_or z j 0) e) in
+  written_note s f kind count n l e =
+      let at : (j : ℕ) → j < 8 → get_or written (i + j) 0 ≡ get_or (s ∷ f ∷ kind ∷ count ∷ (n / 16777216 % 256) ∷ (n / 65536 % 256) ∷ (n / 256 % 256) ∷ (n % 256) ∷ []) j 0 = (λ j h. written_head (i + j) j refl h ∙ ap (λ z. get_or z j 0) e) in
       rw (at 2 (omega arith), at 3 (omega arith), at 4 (omega arith), at 5 (omega arith), at 6 (omega arith), at 7 (omega arith), be32_back n l)
 
-  pub written-data : data_at written i ≡ bytes
+  pub written_data : data_at written i ≡ bytes
   unfolding data_at
-  written-data =
-      let m = mid-length i k₁ xs head (omega arith) (omega arith) in
+  written_data =
+      let m = mid_length i k₁ xs head (omega arith) (omega arith) in
       let e : i + 520 - (i + 8) ≡ 512 = omega arith in
       let t = between-put_mid (i + 8) k₂ (put_mid i k₁ xs head) bytes (i + 520) (omega arith) (omega arith) in
       rw e at t
 
-  pub written-others : (n : ℕ) → (n < i) ⊎ (i + 520 ≤ n) → get_or written n 0 ≡ get_or xs n 0
-  written-others n (inl l) =
-      let m = mid-length i k₁ xs head (omega arith) (omega arith) in
-      mid-below (i + 8) k₂ (put_mid i k₁ xs head) bytes (omega arith) (omega arith) n (omega arith)
-      ∙ mid-below i k₁ xs head (omega arith) (omega arith) n (omega arith)
-  written-others n (inr l) =
-      let m = mid-length i k₁ xs head (omega arith) (omega arith) in
-      mid-above (i + 8) k₂ (put_mid i k₁ xs head) bytes (omega arith) (omega arith) n (omega arith)
-      ∙ mid-above i k₁ xs head (omega arith) (omega arith) n (omega arith)
+  pub written_others : (n : ℕ) → (n < i) ⊎ (i + 520 ≤ n) → get_or written n 0 ≡ get_or xs n 0
+  written_others n (inl l) =
+      let m = mid_length i k₁ xs head (omega arith) (omega arith) in
+      mid_below (i + 8) k₂ (put_mid i k₁ xs head) bytes (omega arith) (omega arith) n (omega arith)
+      ∙ mid_below i k₁ xs head (omega arith) (omega arith) n (omega arith)
+  written_others n (inr l) =
+      let m = mid_length i k₁ xs head (omega arith) (omega arith) in
+      mid_above (i + 8) k₂ (put_mid i k₁ xs head) bytes (omega arith) (omega arith) n (omega arith)
+      ∙ mid_above i k₁ xs head (omega arith) (omega arith) n (omega arith)

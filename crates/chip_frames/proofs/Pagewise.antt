@@ -13,9 +13,9 @@ abbrev pub SameBody : List ℕ → List ℕ → ℕ → Type 0
 SameBody xs ys i = (k : ℕ) → i + 2 ≤ k → k < i + 520 → get_or xs k 0 ≡ get_or ys k 0
 
 module _ (xs ys : List ℕ) (len : length xs ≡ length ys) (i : ℕ) (body : SameBody xs ys i) where
-  pub same-note : note_at xs i ≡ note_at ys i
+  pub same_note : note_at xs i ≡ note_at ys i
   unfolding note_at
-  same-note =
+  same_note =
       let e2 = body (i + 2) (omega arith) (omega arith) in
       let e3 = body (i + 3) (omega arith) (omega arith) in
       let e4 = body (i + 4) (omega arith) (omega arith) in
@@ -24,9 +24,9 @@ module _ (xs ys : List ℕ) (len : length xs ≡ length ys) (i : ℕ) (body : Sa
       let e7 = body (i + 7) (omega arith) (omega arith) in
       cc
 
-  pub same-data : data_at xs i ≡ data_at ys i
+  pub same_data : data_at xs i ≡ data_at ys i
   unfolding data_at
-  same-data =
+  same_data =
       ext_get_or 0 (take 512 (drop (i + 8) xs)) (take 512 (drop (i + 8) ys)) (simp (length-take, length-drop, len))
       (λ k h.
       let h' : k < 512 = omega (arith, length-take 512 (drop (i + 8) xs)) in
@@ -36,7 +36,7 @@ module _ (xs ys : List ℕ) (len : length xs ≡ length ys) (i : ℕ) (body : Sa
 -- a page whose frame has the same body, and now the state byte s
 pub same_body_page : (xs ys : List ℕ) → length ys ≡ length xs → (q s : ℕ) → SameBody ys xs (520 * q) → state_at ys q ≡ s
     → page_of ys q ≡ decode s (held (note_at xs (520 * q)) (data_at xs (520 * q)))
-same_body_page xs ys len q s body e = let n = same-note ys xs len (520 * q) body in let d = same-data ys xs len (520 * q) body in cc
+same_body_page xs ys len q s body e = let n = same_note ys xs len (520 * q) body in let d = same_data ys xs len (520 * q) body in cc
 
 pub restated_page : (xs ys : List ℕ) (f : ℕ → ℕ) → length ys ≡ length xs → Restated xs f ys → (q : ℕ) → q < length xs / 520
     → page_of ys q ≡ decode (f q) (held (note_at xs (520 * q)) (data_at xs (520 * q)))
@@ -99,8 +99,8 @@ module _ (xs ys : List ℕ) (w : Whole xs) (len : length ys ≡ length xs) where
       (λ (h : 8 * blocks_in xs ≤ q). rw (e, le-ltb q (8 * blocks_in xs) h) past)
       (cases_lt q (8 * blocks_in xs))
 
-  pub settled-pages : Restated xs (settling xs) ys → (q : ℕ) → page_in ys q ≡ settled (reads (page_in xs q))
-  settled-pages r q =
+  pub settled_pages : Restated xs (settling xs) ys → (q : ℕ) → page_in ys q ≡ settled (reads (page_in xs q))
+  settled_pages r q =
       by_frames (λ x y. y ≡ settled (reads x)) q refl
       (λ l. restated_page xs ys (settling xs) len r q l ∙ decode_settled (state_at xs q) (held (note_at xs (520 * q)) (data_at xs (520 * q))))
 
@@ -112,15 +112,15 @@ module _ (xs ys : List ℕ) (w : Whole xs) (len : length ys ≡ length xs) where
       (λ (t : eqb (block_of q) b ≡ false). rw t (by_frames (λ x y. y ≡ x) q refl (λ l. restated_page xs ys (erasing xs b) len r q l ∙ rw t refl)))
       (cases_Bool (eqb (block_of q) b))
 
-  pub cut-pages : Restated xs (cutting xs) ys → (q : ℕ) → Cut Tears (page_in xs q) (page_in ys q)
-  cut-pages r q =
+  pub cut_pages : Restated xs (cutting xs) ys → (q : ℕ) → Cut Tears (page_in xs q) (page_in ys q)
+  cut_pages r q =
       by_frames (Cut Tears) q (blank, refl, refl)
       (λ l. subst (Cut Tears (page_of xs q)) (sym (restated_page xs ys (cutting xs) len r q l))
       (decode_cut (state_at xs q) (fate_at xs q) (held (note_at xs (520 * q)) (data_at xs (520 * q)))))
 
-  pub framed-pages : (p : ℕ) (note : Note) (bytes : List ℕ) → p < 8 * blocks_in xs → Framed xs p note bytes ys
+  pub framed_pages : (p : ℕ) (note : Note) (bytes : List ℕ) → p < 8 * blocks_in xs → Framed xs p note bytes ys
       → (q : ℕ) → page_in ys q ≡ cond (eqb q p) (unsettled blank (held note bytes)) (page_in xs q)
-  framed-pages p note bytes l r q =
+  framed_pages p note bytes l r q =
       let e : blocks_in ys ≡ blocks_in xs = ap (λ n. n / 4160) len in
       ⊎_elim
       (λ (h : q < 8 * blocks_in xs). rw (e, lt-ltb q (8 * blocks_in xs) h) (framed_page xs ys p note bytes len r q))

@@ -20,7 +20,7 @@ use Rattle.layout.specs.Pages.{entry_note, entry_data, trailer_note, trailer_dat
 use Rattle.table.specs.Tables.{Table, entry_at, marked_at, replayed, ProperTable}
 use Rattle.recovery.specs.Recovering.{Found, Counts, Numbered, Active, Entered, LogStep, Logged, IsData, Backed, Recovered}
 use Rattle.crash.specs.Crash.{Finds, Holds, HoldsEither, SettledBacked, BlankFrom, SettledEntries, SafeSteps}
-use Rattle.crash.proofs.Ways.{settled_way, wanted_cases, before, before_here, before-elsewhere, before-leaves, page-ways, others-settled, unerased, unerased-elsewhere, unerased-leaves, block-ways}
+use Rattle.crash.proofs.Ways.{settled_way, wanted_cases, before, before_here, before_elsewhere, before_leaves, page_ways, others_settled, unerased, unerased_elsewhere, unerased_leaves, block_ways}
 
 pub first_small : (area : Area) → first_page area ≤ 32
 first_small One = omega arith
@@ -41,18 +41,18 @@ module _ (D : ℕ) (small : D ≤ 448) where
   at s s₀ area h k q l e = rw e (h k l)
 
   -- the log reads the same where its pages do
-  pub logged-same : (s s₀ : ℕ → State) (area : Area) (j : ℕ) → ((i : ℕ) → i < j → s (log_page_at D area i) ≡ s₀ (log_page_at D area i)) → (t u : Table) (m : ℕ)
+  pub logged_same : (s s₀ : ℕ → State) (area : Area) (j : ℕ) → ((i : ℕ) → i < j → s (log_page_at D area i) ≡ s₀ (log_page_at D area i)) → (t u : Table) (m : ℕ)
       → Logged D s₀ area j t u m → Logged D s area j t u m
-  logged-same s s₀ area zero e t u m h = h
-  logged-same s s₀ area (suc j) e t u m (v, n, h, step) =
-      (v, n, logged-same s s₀ area j (λ i l. e i (omega arith)) t v n h, subst (λ z. LogStep z j v n u m) (sym (e j (omega arith))) step)
+  logged_same s s₀ area zero e t u m h = h
+  logged_same s s₀ area (suc j) e t u m (v, n, h, step) =
+      (v, n, logged_same s s₀ area j (λ i l. e i (omega arith)) t v n h, subst (λ z. LogStep z j v n u m) (sym (e j (omega arith))) step)
 
   -- blank pages at the end of the log change nothing
-  pub logged-down : (s : ℕ → State) (area : Area) (k j : ℕ) → j ≤ k → ((i : ℕ) → j ≤ i → i < k → s (log_page_at D area i) ≡ blank) → (t u : Table) (m : ℕ)
+  pub logged_down : (s : ℕ → State) (area : Area) (k j : ℕ) → j ≤ k → ((i : ℕ) → j ≤ i → i < k → s (log_page_at D area i) ≡ blank) → (t u : Table) (m : ℕ)
       → Logged D s area k t u m → Logged D s area j t u m
-  logged-down s area zero j l e t u m h = let z : zero ≡ j = omega arith in subst (λ x. Logged D s area x t u m) z h
-  logged-down s area (suc k) j l e t u m (v, n, h, step) =
-      let deeper : j ≤ k → Logged D s area j t v n = λ below. logged-down s area k j below (λ i a b. e i a (omega arith)) t v n h in
+  logged_down s area zero j l e t u m h = let z : zero ≡ j = omega arith in subst (λ x. Logged D s area x t u m) z h
+  logged_down s area (suc k) j l e t u m (v, n, h, step) =
+      let deeper : j ≤ k → Logged D s area j t v n = λ below. logged_down s area k j below (λ i a b. e i a (omega arith)) t v n h in
       ⊎_elim
       (λ (z : j ≡ suc k). rw z (v, n, h, step))
       (λ (ne : j ≡ suc k → ⊥).
@@ -61,11 +61,11 @@ module _ (D : ℕ) (small : D ≤ 448) where
       rw (same.0, same.1) (deeper below))
       (cases_eq j (suc k))
 
-  pub logged-up : (s : ℕ → State) (area : Area) (k j : ℕ) → j ≤ k → ((i : ℕ) → j ≤ i → i < k → s (log_page_at D area i) ≡ blank) → (t u : Table) (m : ℕ)
+  pub logged_up : (s : ℕ → State) (area : Area) (k j : ℕ) → j ≤ k → ((i : ℕ) → j ≤ i → i < k → s (log_page_at D area i) ≡ blank) → (t u : Table) (m : ℕ)
       → Logged D s area j t u m → Logged D s area k t u m
-  logged-up s area zero j l e t u m h = let z : j ≡ zero = omega arith in subst (λ x. Logged D s area x t u m) z h
-  logged-up s area (suc k) j l e t u m h =
-      let deeper : j ≤ k → Logged D s area k t u m = λ below. logged-up s area k j below (λ i a b. e i a (omega arith)) t u m h in
+  logged_up s area zero j l e t u m h = let z : j ≡ zero = omega arith in subst (λ x. Logged D s area x t u m) z h
+  logged_up s area (suc k) j l e t u m h =
+      let deeper : j ≤ k → Logged D s area k t u m = λ below. logged_up s area k j below (λ i a b. e i a (omega arith)) t u m h in
       ⊎_elim
       (λ (z : j ≡ suc k). subst (λ x. Logged D s area x t u m) z h)
       (λ (ne : j ≡ suc k → ⊥).
@@ -79,15 +79,15 @@ module _ (D : ℕ) (small : D ≤ 448) where
     other : (s (trailer_at D (other_area area)) ≡ s₀ (trailer_at D (other_area area))) ⊎ (Counts (s (trailer_at D (other_area area))) → ⊥)
     marked : (i : ℕ) → i < D → marked_at t i ≡ true → s (data_page_at i) ≡ s₀ (data_page_at i)
 
-  log-inside : (s s₀ : ℕ → State) (area : Area) (t : Table) → Agrees s s₀ area t → (i : ℕ) → i < log_pages D → s (log_page_at D area i) ≡ s₀ (log_page_at D area i)
-  log-inside s s₀ area t g i l = at s s₀ area g.inside (entry_pages D + 1 + i) (log_page_at D area i) (omega arith) (omega arith)
+  log_inside : (s s₀ : ℕ → State) (area : Area) (t : Table) → Agrees s s₀ area t → (i : ℕ) → i < log_pages D → s (log_page_at D area i) ≡ s₀ (log_page_at D area i)
+  log_inside s s₀ area t g i l = at s s₀ area g.inside (entry_pages D + 1 + i) (log_page_at D area i) (omega arith) (omega arith)
 
-  trailer-inside : (s s₀ : ℕ → State) (area : Area) (t : Table) → Agrees s s₀ area t → s (trailer_at D area) ≡ s₀ (trailer_at D area)
-  trailer-inside s s₀ area t g = at s s₀ area g.inside (entry_pages D) (trailer_at D area) (omega arith) refl
+  trailer_inside : (s s₀ : ℕ → State) (area : Area) (t : Table) → Agrees s s₀ area t → s (trailer_at D area) ≡ s₀ (trailer_at D area)
+  trailer_inside s s₀ area t g = at s s₀ area g.inside (entry_pages D) (trailer_at D area) (omega arith) refl
 
-  active-same : (s s₀ : ℕ → State) (area : Area) (n : ℕ) (t : Table) → Agrees s s₀ area t → Active D s₀ area n → Active D s area n
-  active-same s s₀ area n t g h = record {
-    own = subst (λ z. Numbered D area z n) (sym (trailer-inside s s₀ area t g)) h.own;
+  active_same : (s s₀ : ℕ → State) (area : Area) (n : ℕ) (t : Table) → Agrees s s₀ area t → Active D s₀ area n → Active D s area n
+  active_same s s₀ area n t g h = record {
+    own = subst (λ z. Numbered D area z n) (sym (trailer_inside s s₀ area t g)) h.own;
     other = go g.other h.other;
   }
     where
@@ -98,44 +98,44 @@ module _ (D : ℕ) (small : D ≤ 448) where
       go (inl e) (inl not) = inl (λ c. not (subst Counts e c))
       go (inl e) (inr (b, x, y)) = inr (b, subst (λ z. Numbered D (other_area area) z b) (sym e) x, y)
 
-  entered-same : (s s₀ : ℕ → State) (area : Area) (t u : Table) → Agrees s s₀ area t → Entered D s₀ area (entry_pages D) u → Entered D s area (entry_pages D) u
-  entered-same s s₀ area t u g h = record {
+  entered_same : (s s₀ : ℕ → State) (area : Area) (t u : Table) → Agrees s s₀ area t → Entered D s₀ area (entry_pages D) u → Entered D s area (entry_pages D) u
+  entered_same s s₀ area t u g h = record {
     long = h.long;
     pages = λ i l. at s s₀ area g.inside i (entry_page_at area i) (omega arith) refl ∙ h.pages i l;
     proper = h.proper;
     distinct = h.distinct;
   }
 
-  backed-same : (s s₀ : ℕ → State) (area : Area) (t : Table) → Agrees s s₀ area t → Backed s₀ t D → Backed s t D
-  backed-same s s₀ area t g h i l k = let (bytes, e) = h i l k in (bytes, g.marked i l k ∙ e)
+  backed_same : (s s₀ : ℕ → State) (area : Area) (t : Table) → Agrees s s₀ area t → Backed s₀ t D → Backed s t D
+  backed_same s s₀ area t g h i l k = let (bytes, e) = h i l k in (bytes, g.marked i l k ∙ e)
 
-  finds-same : (s s₀ : ℕ → State) (area : Area) (n : ℕ) (t : Table) → Agrees s s₀ area t → Finds D s₀ area n t → Finds D s area n t
-  finds-same s s₀ area n t g (next, h) = (
+  finds_same : (s s₀ : ℕ → State) (area : Area) (n : ℕ) (t : Table) → Agrees s s₀ area t → Finds D s₀ area n t → Finds D s area n t
+  finds_same s s₀ area n t g (next, h) = (
     next,
     record {
-      active = active-same s s₀ area n t g h.active;
+      active = active_same s s₀ area n t g h.active;
       base = h.base;
-      entries = entered-same s s₀ area t h.base g h.entries;
-      log = logged-same s s₀ area (log_pages D) (log-inside s s₀ area t g) h.base t next h.log;
-      backed = backed-same s s₀ area t g h.backed;
+      entries = entered_same s s₀ area t h.base g h.entries;
+      log = logged_same s s₀ area (log_pages D) (log_inside s s₀ area t g) h.base t next h.log;
+      backed = backed_same s s₀ area t g h.backed;
     },
   )
 
   -- A page changes that is neither in the area nor the other area's trailer nor a data page that the table marks.
-  agrees-beside : (s s₀ : ℕ → State) (area : Area) (t : Table) (p : ℕ) → ((q : ℕ) → (q ≡ p → ⊥) → s q ≡ s₀ q)
+  agrees_beside : (s s₀ : ℕ → State) (area : Area) (t : Table) (p : ℕ) → ((q : ℕ) → (q ≡ p → ⊥) → s q ≡ s₀ q)
       → ((k : ℕ) → k < 32 → first_page area + k ≡ p → ⊥) → (trailer_at D (other_area area) ≡ p → ⊥) → ((i : ℕ) → i < D → marked_at t i ≡ true → data_page_at i ≡ p → ⊥)
       → Agrees s s₀ area t
-  agrees-beside s s₀ area t p e a b c = record {
+  agrees_beside s s₀ area t p e a b c = record {
     inside = λ k l. e (first_page area + k) (a k l);
     other = inl (e (trailer_at D (other_area area)) b);
     marked = λ i l k. e (data_page_at i) (c i l k);
   }
 
-  trailer-below : (area : Area) → trailer_at D area < 64
-  trailer-below area = omega (arith, first_small area)
+  trailer_below : (area : Area) → trailer_at D area < 64
+  trailer_below area = omega (arith, first_small area)
 
-  data-apart : (t : Table) (i j : ℕ) → marked_at t i ≡ false → marked_at t j ≡ true → data_page_at j ≡ data_page_at i → ⊥
-  data-apart t i j a b e = let z : j ≡ i = omega arith in true≢false (sym b ∙ ap (marked_at t) z ∙ a)
+  data_apart : (t : Table) (i j : ℕ) → marked_at t i ≡ false → marked_at t j ≡ true → data_page_at j ≡ data_page_at i → ⊥
+  data_apart t i j a b e = let z : j ≡ i = omega arith in true≢false (sym b ∙ ap (marked_at t) z ∙ a)
 
   data_page : (m m' : Pages) (area : Area) (n : ℕ) (t : Table) (i : ℕ) (note : Note) (bytes : List ℕ) (r : Result (Unit {0}) Fault)
       → Holds D m area n t → marked_at t i ≡ false → Programs m (data_page_at i) note bytes r m' → Holds D m' area n t
@@ -146,10 +146,10 @@ module _ (D : ℕ) (small : D ≤ 448) where
       go (inr (e, w)) =
           let p = data_page_at i in
           let was = program_blank m p (length bytes) e in
-          finds-same s (before m p note bytes was s w) area n t
-          (agrees-beside s (before m p note bytes was s w) area t p (before-elsewhere m p note bytes was s w)
-          (λ k x y. omega (arith, first_small area)) (λ x. omega (arith, trailer-below (other_area area))) (λ j x y z. data-apart t i j free y z))
-          (h (before m p note bytes was s w) (before-leaves m p note bytes was s w))
+          finds_same s (before m p note bytes was s w) area n t
+          (agrees_beside s (before m p note bytes was s w) area t p (before_elsewhere m p note bytes was s w)
+          (λ k x y. omega (arith, first_small area)) (λ x. omega (arith, trailer_below (other_area area))) (λ j x y z. data_apart t i j free y z))
+          (h (before m p note bytes was s w) (before_leaves m p note bytes was s w))
 
   other_entry : (m m' : Pages) (area : Area) (n : ℕ) (t : Table) (j : ℕ) (note : Note) (bytes : List ℕ) (r : Result (Unit {0}) Fault)
       → Holds D m area n t → j < entry_pages D → Programs m (entry_page_at (other_area area) j) note bytes r m' → Holds D m' area n t
@@ -161,19 +161,19 @@ module _ (D : ℕ) (small : D ≤ 448) where
       go (inr (e, w)) =
           let p = entry_page_at (other_area area) j in
           let was = program_blank m p (length bytes) e in
-          finds-same s (before m p note bytes was s w) area n t
-          (agrees-beside s (before m p note bytes was s w) area t p (before-elsewhere m p note bytes was s w)
+          finds_same s (before m p note bytes was s w) area n t
+          (agrees_beside s (before m p note bytes was s w) area t p (before_elsewhere m p note bytes was s w)
           (λ k x y. areas_apart area k j x (omega arith) y) (λ x. omega arith) (λ i x y z. omega (arith, first_small (other_area area))))
-          (h (before m p note bytes was s w) (before-leaves m p note bytes was s w))
+          (h (before m p note bytes was s w) (before_leaves m p note bytes was s w))
 
-  blocks-apart : (area : Area) (b k : ℕ) → block_of (first_page (other_area area)) ≤ b → b < block_of (first_page (other_area area)) + 4 → k < 32 → block_of (first_page area + k) ≡ b → ⊥
-  blocks-apart One b k x y l e = omega arith
-  blocks-apart Two b k x y l e = omega arith
+  blocks_apart : (area : Area) (b k : ℕ) → block_of (first_page (other_area area)) ≤ b → b < block_of (first_page (other_area area)) + 4 → k < 32 → block_of (first_page area + k) ≡ b → ⊥
+  blocks_apart One b k x y l e = omega arith
+  blocks_apart Two b k x y l e = omega arith
 
-  erase-step : (m m' : Pages) (area : Area) (n : ℕ) (t : Table) (b : ℕ) (r : Result (Unit {0}) Fault) → Holds D m area n t
+  erase_step : (m m' : Pages) (area : Area) (n : ℕ) (t : Table) (b : ℕ) (r : Result (Unit {0}) Fault) → Holds D m area n t
       → ((k : ℕ) → k < 32 → block_of (first_page area + k) ≡ b → ⊥) → ((i : ℕ) → i < D → marked_at t i ≡ true → block_of (data_page_at i) ≡ b → ⊥)
       → Erases m b r m' → Holds D m' area n t
-  erase-step m m' area n t b r h apart unmarked call s l = go (wanted_cases _ m _ s (chip_cuts.at_erase m m' b r s call l))
+  erase_step m m' area n t b r h apart unmarked call s l = go (wanted_cases _ m _ s (chip_cuts.at_erase m m' b r s call l))
     where
       uncounted : (x : State) → (x ≡ blank) ⊎ (x ≡ torn) → Counts x → ⊥
       uncounted x (inl e) c = subst Counts e c
@@ -182,48 +182,48 @@ module _ (D : ℕ) (small : D ≤ 448) where
       go : Leaves Tears m.cell s ⊎ ((erase_refusal m b ≡ None) × Leaves Tears (erased_block m b) s) → Finds D s area n t
       go (inl same) = h s same
       go (inr (e, w)) =
-          finds-same s (unerased m b s w) area n t
+          finds_same s (unerased m b s w) area n t
           (record {
-            inside = λ k x. unerased-elsewhere m b s w (first_page area + k) (apart k x);
+            inside = λ k x. unerased_elsewhere m b s w (first_page area + k) (apart k x);
             other = ⊎_elim
                 (λ (i : block_of (trailer_at D (other_area area)) ≡ b). ⊎_elim (λ x. inl x) (λ x. inr (uncounted _ x))
-                (block-ways m b s w (trailer_at D (other_area area)) i (erase_free m b e (trailer_at D (other_area area)) i)))
-                (λ ne. inl (unerased-elsewhere m b s w (trailer_at D (other_area area)) ne))
+                (block_ways m b s w (trailer_at D (other_area area)) i (erase_free m b e (trailer_at D (other_area area)) i)))
+                (λ ne. inl (unerased_elsewhere m b s w (trailer_at D (other_area area)) ne))
                 (cases_eq (block_of (trailer_at D (other_area area))) b);
-            marked = λ i x y. unerased-elsewhere m b s w (data_page_at i) (unmarked i x y);
+            marked = λ i x y. unerased_elsewhere m b s w (data_page_at i) (unmarked i x y);
           })
-          (h (unerased m b s w) (unerased-leaves m b s w))
+          (h (unerased m b s w) (unerased_leaves m b s w))
 
   data_block : (m m' : Pages) (area : Area) (n : ℕ) (t : Table) (b : ℕ) (r : Result (Unit {0}) Fault)
       → Holds D m area n t → 8 ≤ b → ((i : ℕ) → block_of (data_page_at i) ≡ b → marked_at t i ≡ false) → Erases m b r m' → Holds D m' area n t
   data_block m m' area n t b r h behind free call =
-      erase-step m m' area n t b r h (λ k x y. omega (arith, first_small area)) (λ i x y z. true≢false (sym y ∙ free i z)) call
+      erase_step m m' area n t b r h (λ k x y. omega (arith, first_small area)) (λ i x y z. true≢false (sym y ∙ free i z)) call
 
   other_block : (m m' : Pages) (area : Area) (n : ℕ) (t : Table) (b : ℕ) (r : Result (Unit {0}) Fault)
       → Holds D m area n t → block_of (first_page (other_area area)) ≤ b → b < block_of (first_page (other_area area)) + 4 → Erases m b r m' → Holds D m' area n t
   other_block m m' area n t b r h low high call =
-      erase-step m m' area n t b r h (λ k x y. blocks-apart area b k low high x y) (λ i x y z. omega (arith, first_small (other_area area))) call
+      erase_step m m' area n t b r h (λ k x y. blocks_apart area b k low high x y) (λ i x y z. omega (arith, first_small (other_area area))) call
 
-  entry-cover : D ≤ 64 * entry_pages D
-  entry-cover = omega arith
+  entry_cover : D ≤ 64 * entry_pages D
+  entry_cover = omega arith
 
-  pub entered-whole : (s : ℕ → State) (area : Area) (t : Table) → length t ≡ D → ProperTable t
+  pub entered_whole : (s : ℕ → State) (area : Area) (t : Table) → length t ≡ D → ProperTable t
       → ((j : ℕ) → j < entry_pages D → s (entry_page_at area j) ≡ held (entry_note j) (entry_data t j)) → Entered D s area (entry_pages D) t
-  entered-whole s area t long ok pages = record {
+  entered_whole s area t long ok pages = record {
     long = long;
     pages = pages;
-    proper = rw (take_all (64 * entry_pages D) t (omega (arith, entry-cover))) ok.entries;
+    proper = rw (take_all (64 * entry_pages D) t (omega (arith, entry_cover))) ok.entries;
     distinct = λ i j a _ _ x y. ok.distinct i j a x y;
   }
 
-  pub log-blank : (s : ℕ → State) (area : Area) (t : Table) → ((i : ℕ) → i < log_pages D → s (log_page_at D area i) ≡ blank) → Logged D s area (log_pages D) t t 0
-  log-blank s area t e = logged-up s area (log_pages D) 0 (omega arith) (λ i _ l. e i l) t t 0 (refl, refl)
+  pub log_blank : (s : ℕ → State) (area : Area) (t : Table) → ((i : ℕ) → i < log_pages D → s (log_page_at D area i) ≡ blank) → Logged D s area (log_pages D) t t 0
+  log_blank s area t e = logged_up s area (log_pages D) 0 (omega arith) (λ i _ l. e i l) t t 0 (refl, refl)
 
   -- a checkpoint in area `b` whose trailer is there, one number on from that of the other area `a`
-  new-checkpoint : (s : ℕ → State) (a b : Area) (n : ℕ) (u : Table) → other_area b ≡ a → n < 3 → Numbered D a (s (trailer_at D a)) n
+  new_checkpoint : (s : ℕ → State) (a b : Area) (n : ℕ) (u : Table) → other_area b ≡ a → n < 3 → Numbered D a (s (trailer_at D a)) n
       → s (trailer_at D b) ≡ held (trailer_note D ((n + 1) % 3)) (trailer_data b D) → Entered D s b (entry_pages D) u
       → ((i : ℕ) → i < log_pages D → s (log_page_at D b i) ≡ blank) → Backed s u D → Finds D s b ((n + 1) % 3) u
-  new-checkpoint s a b n u e small own trailer entries log backed = (
+  new_checkpoint s a b n u e small own trailer entries log backed = (
     0,
     record {
       active = record {
@@ -232,14 +232,14 @@ module _ (D : ℕ) (small : D ≤ 448) where
       };
       base = u;
       entries = entries;
-      log = log-blank s b u log;
+      log = log_blank s b u log;
       backed = backed;
     },
   )
 
-  pub backed-settled : (m : Pages) (u : Table) (s : ℕ → State) → ((i : ℕ) (x : State) → i < D → m.cell (data_page_at i) ≡ settled x → s (data_page_at i) ≡ x)
+  pub backed_settled : (m : Pages) (u : Table) (s : ℕ → State) → ((i : ℕ) (x : State) → i < D → m.cell (data_page_at i) ≡ settled x → s (data_page_at i) ≡ x)
       → SettledBacked D m u → Backed s u D
-  backed-settled m u s way h i l k = let (bytes, e) = h i l k in (bytes, way i _ l e)
+  backed_settled m u s way h i l k = let (bytes, e) = h i l k in (bytes, way i _ l e)
 
   -- Around the program of the other area's trailer, with its page blank before.
   module _ (m : Pages) (area : Area) (n : ℕ) (t u : Table) (h : Holds D m area n t) (few : n < 3) (long : length u ≡ D) (ok : ProperTable u)
@@ -250,40 +250,40 @@ module _ (D : ℕ) (small : D ≤ 448) where
     s₀ = before m (trailer_at D (other_area area)) (trailer_note D ((n + 1) % 3)) (trailer_data (other_area area) D) was s w
 
     elsewhere : (q : ℕ) → (q ≡ trailer_at D (other_area area) → ⊥) → s q ≡ s₀ q
-    elsewhere = before-elsewhere m (trailer_at D (other_area area)) (trailer_note D ((n + 1) % 3)) (trailer_data (other_area area) D) was s w
+    elsewhere = before_elsewhere m (trailer_at D (other_area area)) (trailer_note D ((n + 1) % 3)) (trailer_data (other_area area) D) was s w
 
-    settled-there : (q : ℕ) (x : State) → (q ≡ trailer_at D (other_area area) → ⊥) → m.cell q ≡ settled x → s q ≡ x
-    settled-there = others-settled m (trailer_at D (other_area area)) (trailer_note D ((n + 1) % 3)) (trailer_data (other_area area) D) was s w
+    settled_there : (q : ℕ) (x : State) → (q ≡ trailer_at D (other_area area) → ⊥) → m.cell q ≡ settled x → s q ≡ x
+    settled_there = others_settled m (trailer_at D (other_area area)) (trailer_note D ((n + 1) % 3)) (trailer_data (other_area area) D) was s w
 
     old : Finds D s₀ area n t
-    old = h s₀ (before-leaves m (trailer_at D (other_area area)) (trailer_note D ((n + 1) % 3)) (trailer_data (other_area area) D) was s w)
+    old = h s₀ (before_leaves m (trailer_at D (other_area area)) (trailer_note D ((n + 1) % 3)) (trailer_data (other_area area) D) was s w)
 
-    inside-same : (k : ℕ) → k < 32 → s (first_page area + k) ≡ s₀ (first_page area + k)
-    inside-same k l = elsewhere (first_page area + k) (λ e. areas_apart area k (entry_pages D) l (omega arith) e)
+    inside_same : (k : ℕ) → k < 32 → s (first_page area + k) ≡ s₀ (first_page area + k)
+    inside_same k l = elsewhere (first_page area + k) (λ e. areas_apart area k (entry_pages D) l (omega arith) e)
 
-    data-same : (i : ℕ) → s (data_page_at i) ≡ s₀ (data_page_at i)
-    data-same i = elsewhere (data_page_at i) (λ e. omega (arith, trailer-below (other_area area)))
+    data_same : (i : ℕ) → s (data_page_at i) ≡ s₀ (data_page_at i)
+    data_same i = elsewhere (data_page_at i) (λ e. omega (arith, trailer_below (other_area area)))
 
-    still-old : (s (trailer_at D (other_area area)) ≡ s₀ (trailer_at D (other_area area))) ⊎ (Counts (s (trailer_at D (other_area area))) → ⊥) → Finds D s area n t
-    still-old o = finds-same s s₀ area n t (record { inside = inside-same; other = o; marked = λ i _ _. data-same i }) old
+    still_old : (s (trailer_at D (other_area area)) ≡ s₀ (trailer_at D (other_area area))) ⊎ (Counts (s (trailer_at D (other_area area))) → ⊥) → Finds D s area n t
+    still_old o = finds_same s s₀ area n t (record { inside = inside_same; other = o; marked = λ i _ _. data_same i }) old
 
-    now-new : s (trailer_at D (other_area area)) ≡ held (trailer_note D ((n + 1) % 3)) (trailer_data (other_area area) D) → Finds D s (other_area area) ((n + 1) % 3) u
-    now-new e =
-        new-checkpoint s area (other_area area) n u (other_other area) few
-        (subst (λ z. Numbered D area z n) (sym (at s s₀ area inside-same (entry_pages D) (trailer_at D area) (omega arith) refl)) old.1.active.own) e
-        (entered-whole s (other_area area) u long ok (λ j l. settled-there (entry_page_at (other_area area) j) _ (λ z. omega arith) (entries j l)))
-        (λ i l. settled-there (log_page_at D (other_area area) i) blank (λ z. omega arith) (log i (omega arith) l))
-        (backed-settled m u s (λ i x _ z. settled-there (data_page_at i) x (λ y. omega (arith, trailer-below (other_area area))) z) backed)
+    now_new : s (trailer_at D (other_area area)) ≡ held (trailer_note D ((n + 1) % 3)) (trailer_data (other_area area) D) → Finds D s (other_area area) ((n + 1) % 3) u
+    now_new e =
+        new_checkpoint s area (other_area area) n u (other_other area) few
+        (subst (λ z. Numbered D area z n) (sym (at s s₀ area inside_same (entry_pages D) (trailer_at D area) (omega arith) refl)) old.1.active.own) e
+        (entered_whole s (other_area area) u long ok (λ j l. settled_there (entry_page_at (other_area area) j) _ (λ z. omega arith) (entries j l)))
+        (λ i l. settled_there (log_page_at D (other_area area) i) blank (λ z. omega arith) (log i (omega arith) l))
+        (backed_settled m u s (λ i x _ z. settled_there (data_page_at i) x (λ y. omega (arith, trailer_below (other_area area))) z) backed)
 
-    trailer-ways : Finds D s area n t ⊎ Finds D s (other_area area) ((n + 1) % 3) u
-    trailer-ways = go (page-ways m (trailer_at D (other_area area)) (trailer_note D ((n + 1) % 3)) (trailer_data (other_area area) D) was s w)
+    trailer_ways : Finds D s area n t ⊎ Finds D s (other_area area) ((n + 1) % 3) u
+    trailer_ways = go (page_ways m (trailer_at D (other_area area)) (trailer_note D ((n + 1) % 3)) (trailer_data (other_area area) D) was s w)
       where
         go : (s (trailer_at D (other_area area)) ≡ blank)
             ⊎ ((s (trailer_at D (other_area area)) ≡ held (trailer_note D ((n + 1) % 3)) (trailer_data (other_area area) D)) ⊎ (s (trailer_at D (other_area area)) ≡ torn))
             → Finds D s area n t ⊎ Finds D s (other_area area) ((n + 1) % 3) u
-        go (inl e) = inl (still-old (inr (λ c. subst Counts e c)))
-        go (inr (inl e)) = inr (now-new e)
-        go (inr (inr e)) = inl (still-old (inr (λ c. subst Counts e c)))
+        go (inl e) = inl (still_old (inr (λ c. subst Counts e c)))
+        go (inr (inl e)) = inr (now_new e)
+        go (inr (inr e)) = inl (still_old (inr (λ c. subst Counts e c)))
 
   other_trailer : (m m' : Pages) (area : Area) (n : ℕ) (t u : Table) (r : Result (Unit {0}) Fault)
       → Holds D m area n t → n < 3 → length u ≡ D → ProperTable u → SettledEntries D m (other_area area) u → BlankFrom D m (other_area area) 0 → SettledBacked D m u
@@ -291,7 +291,7 @@ module _ (D : ℕ) (small : D ≤ 448) where
       → HoldsEither D m' area n t (other_area area) ((n + 1) % 3) u
   other_trailer m m' area n t u r h few long ok entries log backed call s l =
       ⊎_elim (λ same. inl (h s same))
-      (λ x. trailer-ways m area n t u h few long ok entries log backed
+      (λ x. trailer_ways m area n t u h few long ok entries log backed
       (program_blank m (trailer_at D (other_area area)) (length (trailer_data (other_area area) D)) x.0) s x.1)
       (wanted_cases _ m _ s (chip_cuts.at_program m m' (trailer_at D (other_area area)) (trailer_note D ((n + 1) % 3)) (trailer_data (other_area area) D) r s call l))
 
@@ -307,70 +307,70 @@ module _ (D : ℕ) (small : D ≤ 448) where
     l₀ = before m p (log_note records) (log_data records) was s w
 
     away : (q : ℕ) → (q ≡ log_page_at D area j → ⊥) → s q ≡ l₀ q
-    away = before-elsewhere m p (log_note records) (log_data records) was s w
+    away = before_elsewhere m p (log_note records) (log_data records) was s w
 
-    settled-away : (q : ℕ) (x : State) → (q ≡ log_page_at D area j → ⊥) → m.cell q ≡ settled x → s q ≡ x
-    settled-away = others-settled m p (log_note records) (log_data records) was s w
+    settled_away : (q : ℕ) (x : State) → (q ≡ log_page_at D area j → ⊥) → m.cell q ≡ settled x → s q ≡ x
+    settled_away = others_settled m p (log_note records) (log_data records) was s w
 
-    was-old : Finds D l₀ area n t
-    was-old = h l₀ (before-leaves m p (log_note records) (log_data records) was s w)
+    was_old : Finds D l₀ area n t
+    was_old = h l₀ (before_leaves m p (log_note records) (log_data records) was s w)
 
-    log-was-blank : (i : ℕ) → j ≤ i → i < log_pages D → l₀ (log_page_at D area i) ≡ blank
-    log-was-blank i a b =
-        settled_way m.cell l₀ (log_page_at D area i) blank (before-leaves m p (log_note records) (log_data records) was s w) (free i a b)
+    log_was_blank : (i : ℕ) → j ≤ i → i < log_pages D → l₀ (log_page_at D area i) ≡ blank
+    log_was_blank i a b =
+        settled_way m.cell l₀ (log_page_at D area i) blank (before_leaves m p (log_note records) (log_data records) was s w) (free i a b)
 
-    log-blank-after : (i : ℕ) → suc j ≤ i → i < log_pages D → s (log_page_at D area i) ≡ blank
-    log-blank-after i a b = settled-away (log_page_at D area i) blank (λ e. omega arith) (free i (omega arith) b)
+    log_blank_after : (i : ℕ) → suc j ≤ i → i < log_pages D → s (log_page_at D area i) ≡ blank
+    log_blank_after i a b = settled_away (log_page_at D area i) blank (λ e. omega arith) (free i (omega arith) b)
 
     -- the log up to page j, as it stood
-    upto : Logged D s area j was-old.1.base t was-old.0
+    upto : Logged D s area j was_old.1.base t was_old.0
     upto =
-        logged-same s l₀ area j (λ i l. away (log_page_at D area i) (λ e. omega arith)) was-old.1.base t was-old.0
-        (logged-down l₀ area (log_pages D) j (omega arith) log-was-blank was-old.1.base t was-old.0 was-old.1.log)
+        logged_same s l₀ area j (λ i l. away (log_page_at D area i) (λ e. omega arith)) was_old.1.base t was_old.0
+        (logged_down l₀ area (log_pages D) j (omega arith) log_was_blank was_old.1.base t was_old.0 was_old.1.log)
 
     -- what recovery finds once page j turns the table into v
-    with_page : (v : Table) → LogStep (s (log_page_at D area j)) j t was-old.0 v (suc j) → Backed s v D → Finds D s area n v
+    with_page : (v : Table) → LogStep (s (log_page_at D area j)) j t was_old.0 v (suc j) → Backed s v D → Finds D s area n v
     with_page v step held_up = (
       suc j,
       record {
-        active = active-away;
-        base = was-old.1.base;
-        entries = entries-away;
-        log = logged-up s area (log_pages D) (suc j) (omega arith) log-blank-after was-old.1.base v (suc j) (t, was-old.0, upto, step);
+        active = active_away;
+        base = was_old.1.base;
+        entries = entries_away;
+        log = logged_up s area (log_pages D) (suc j) (omega arith) log_blank_after was_old.1.base v (suc j) (t, was_old.0, upto, step);
         backed = held_up;
       },
     )
       where
-        own-away : s (trailer_at D area) ≡ l₀ (trailer_at D area)
-        own-away = away (trailer_at D area) (λ e. omega arith)
+        own_away : s (trailer_at D area) ≡ l₀ (trailer_at D area)
+        own_away = away (trailer_at D area) (λ e. omega arith)
 
-        other-away : s (trailer_at D (other_area area)) ≡ l₀ (trailer_at D (other_area area))
-        other-away = away (trailer_at D (other_area area)) (λ e. areas_apart area (entry_pages D + 1 + j) (entry_pages D) (omega arith) (omega arith) (omega arith))
+        other_away : s (trailer_at D (other_area area)) ≡ l₀ (trailer_at D (other_area area))
+        other_away = away (trailer_at D (other_area area)) (λ e. areas_apart area (entry_pages D + 1 + j) (entry_pages D) (omega arith) (omega arith) (omega arith))
 
-        active-away : Active D s area n
-        active-away = record {
-          own = subst (λ z. Numbered D area z n) (sym own-away) was-old.1.active.own;
-          other = subst (λ z. (Counts z → ⊥) ⊎ ((b : ℕ) × Numbered D (other_area area) z b × (n ≡ (b + 1) % 3))) (sym other-away) was-old.1.active.other;
+        active_away : Active D s area n
+        active_away = record {
+          own = subst (λ z. Numbered D area z n) (sym own_away) was_old.1.active.own;
+          other = subst (λ z. (Counts z → ⊥) ⊎ ((b : ℕ) × Numbered D (other_area area) z b × (n ≡ (b + 1) % 3))) (sym other_away) was_old.1.active.other;
         }
 
-        entries-away : Entered D s area (entry_pages D) was-old.1.base
-        entries-away = record {
-          long = was-old.1.entries.long;
-          pages = λ i l. away (entry_page_at area i) (λ e. omega arith) ∙ was-old.1.entries.pages i l;
-          proper = was-old.1.entries.proper;
-          distinct = was-old.1.entries.distinct;
+        entries_away : Entered D s area (entry_pages D) was_old.1.base
+        entries_away = record {
+          long = was_old.1.entries.long;
+          pages = λ i l. away (entry_page_at area i) (λ e. omega arith) ∙ was_old.1.entries.pages i l;
+          proper = was_old.1.entries.proper;
+          distinct = was_old.1.entries.distinct;
         }
 
-    data-away : (i : ℕ) → s (data_page_at i) ≡ l₀ (data_page_at i)
-    data-away i = away (data_page_at i) (λ e. omega (arith, first_small area))
+    data_away : (i : ℕ) → s (data_page_at i) ≡ l₀ (data_page_at i)
+    data_away i = away (data_page_at i) (λ e. omega (arith, first_small area))
 
-    old-backed : Backed s t D
-    old-backed i l k = let (bytes, e) = was-old.1.backed i l k in (bytes, data-away i ∙ e)
+    old_backed : Backed s t D
+    old_backed i l k = let (bytes, e) = was_old.1.backed i l k in (bytes, data_away i ∙ e)
 
     unprogrammed : s (log_page_at D area j) ≡ blank → Finds D s area n t
     unprogrammed e =
-        finds-same s l₀ area n t
-        (record { inside = λ k _. everywhere (first_page area + k); other = inl (everywhere (trailer_at D (other_area area))); marked = λ i _ _. data-away i }) was-old
+        finds_same s l₀ area n t
+        (record { inside = λ k _. everywhere (first_page area + k); other = inl (everywhere (trailer_at D (other_area area))); marked = λ i _ _. data_away i }) was_old
       where
         everywhere : (q : ℕ) → s q ≡ l₀ q
         everywhere q = ⊎_elim
@@ -378,40 +378,40 @@ module _ (D : ℕ) (small : D ≤ 448) where
             (λ (ne : q ≡ log_page_at D area j → ⊥). away q ne)
             (cases_eq q (log_page_at D area j))
 
-    log-new : s (log_page_at D area j) ≡ held (log_note records) (log_data records) → Finds D s area n u
-    log-new e =
-        with_page u (subst (λ z. LogStep z j t was-old.0 u (suc j)) (sym e) (records, ok, refl, refl, makes, refl))
-        (backed-settled m u s (λ i x _ z. settled-away (data_page_at i) x (λ y. omega (arith, first_small area)) z) backed)
+    log_new : s (log_page_at D area j) ≡ held (log_note records) (log_data records) → Finds D s area n u
+    log_new e =
+        with_page u (subst (λ z. LogStep z j t was_old.0 u (suc j)) (sym e) (records, ok, refl, refl, makes, refl))
+        (backed_settled m u s (λ i x _ z. settled_away (data_page_at i) x (λ y. omega (arith, first_small area)) z) backed)
 
-    log-ways : Finds D s area n t ⊎ Finds D s area n u
-    log-ways = go (page-ways m p (log_note records) (log_data records) was s w)
+    log_ways : Finds D s area n t ⊎ Finds D s area n u
+    log_ways = go (page_ways m p (log_note records) (log_data records) was s w)
       where
         go : (s (log_page_at D area j) ≡ blank) ⊎ ((s (log_page_at D area j) ≡ held (log_note records) (log_data records)) ⊎ (s (log_page_at D area j) ≡ torn))
             → Finds D s area n t ⊎ Finds D s area n u
         go (inl e) = inl (unprogrammed e)
-        go (inr (inl e)) = inr (log-new e)
-        go (inr (inr e)) = inl (with_page t (subst (λ z. LogStep z j t was-old.0 t (suc j)) (sym e) (refl, refl)) old-backed)
+        go (inr (inl e)) = inr (log_new e)
+        go (inr (inr e)) = inl (with_page t (subst (λ z. LogStep z j t was_old.0 t (suc j)) (sym e) (refl, refl)) old_backed)
 
   next_log : (m m' : Pages) (area : Area) (n : ℕ) (t u : Table) (j : ℕ) (records : List Record) (r : Result (Unit {0}) Fault)
       → Holds D m area n t → j < log_pages D → BlankFrom D m area j → ProperLog records → replayed (Some t) records ≡ Some u → SettledBacked D m u
       → Programs m (log_page_at D area j) (log_note records) (log_data records) r m' → HoldsEither D m' area n t area n u
   next_log m m' area n t u j records r h few free ok makes backed call s l =
       ⊎_elim (λ same. inl (h s same))
-      (λ x. log-ways m area n t u j records h few free ok makes backed (free j (omega arith) few) s x.1)
+      (λ x. log_ways m area n t u j records h few free ok makes backed (free j (omega arith) few) s x.1)
       (wanted_cases _ m _ s (chip_cuts.at_program m m' (log_page_at D area j) (log_note records) (log_data records) r s call l))
 
   -- A page that was programmed, and settled by a sync behind it, reads so whichever way a cut goes.
   module _ (m m₁ m₂ : Pages) (p : ℕ) (note : Note) (bytes : List ℕ) (call : Programs m p note bytes (Ok tt) m₁) (sync : Syncs m₁ (Ok tt) m₂) (s : ℕ → State) (l : Leaves Tears m₂.cell s) where
-    still-wanted : Leaves Tears (programmed m p note bytes) s
-    still-wanted =
+    still_wanted : Leaves Tears (programmed m p note bytes) s
+    still_wanted =
         subst (λ o. Leaves Tears (wanted o m (programmed m p note bytes)) s) call.0
         (chip_cuts.at_program m m₁ p note bytes (Ok tt) s call (chip_cuts.at_sync m₁ m₂ (Ok tt) s sync l))
 
-    was-blank : m.cell p ≡ settled blank
-    was-blank = program_blank m p (length bytes) call.0
+    was_blank : m.cell p ≡ settled blank
+    was_blank = program_blank m p (length bytes) call.0
 
-    now-held : s p ≡ held note bytes
-    now-held =
+    now_held : s p ≡ held note bytes
+    now_held =
         settled_way m₂.cell s p (reads (m₁.cell p)) l (early_settled (reads (m₁.cell p)) (m₂.cell p) (sync.2.cells p))
         ∙ (chip_reads.after_program m m₁ p note bytes call).0
 
@@ -419,37 +419,37 @@ module _ (D : ℕ) (small : D ≤ 448) where
       → ProperLog records → replayed (Some t) records ≡ Some u → SettledBacked D m u → Programs m (log_page_at D area j) (log_note records) (log_data records) (Ok tt) m₁
       → Syncs m₁ (Ok tt) m₂ → Holds D m₂ area n u
   log_committed m m₁ m₂ area n t u j records h few free ok makes backed call sync s l =
-      log-new m area n t u j records h few free ok makes backed (was-blank m m₁ m₂ _ _ _ call sync s l) s (still-wanted m m₁ m₂ _ _ _ call sync s l)
-      (now-held m m₁ m₂ _ _ _ call sync s l)
+      log_new m area n t u j records h few free ok makes backed (was_blank m m₁ m₂ _ _ _ call sync s l) s (still_wanted m m₁ m₂ _ _ _ call sync s l)
+      (now_held m m₁ m₂ _ _ _ call sync s l)
 
   trailer_committed : (m m₁ m₂ : Pages) (area : Area) (n : ℕ) (t u : Table) → Holds D m area n t → n < 3 → length u ≡ D → ProperTable u
       → SettledEntries D m (other_area area) u → BlankFrom D m (other_area area) 0 → SettledBacked D m u
       → Programs m (trailer_at D (other_area area)) (trailer_note D ((n + 1) % 3)) (trailer_data (other_area area) D) (Ok tt) m₁ → Syncs m₁ (Ok tt) m₂
       → Holds D m₂ (other_area area) ((n + 1) % 3) u
   trailer_committed m m₁ m₂ area n t u h few long ok entries log backed call sync s l =
-      now-new m area n t u h few long ok entries log backed (was-blank m m₁ m₂ _ _ _ call sync s l) s (still-wanted m m₁ m₂ _ _ _ call sync s l)
-      (now-held m m₁ m₂ _ _ _ call sync s l)
+      now_new m area n t u h few long ok entries log backed (was_blank m m₁ m₂ _ _ _ call sync s l) s (still_wanted m m₁ m₂ _ _ _ call sync s l)
+      (now_held m m₁ m₂ _ _ _ call sync s l)
 
   -- a settled checkpoint with a blank log, and no trailer in the other area
-  pub settled-holds : (m : Pages) (area : Area) (n : ℕ) (t : Table) → n < 3 → length t ≡ D → ProperTable t → SettledEntries D m area t
+  pub settled_holds : (m : Pages) (area : Area) (n : ℕ) (t : Table) → n < 3 → length t ≡ D → ProperTable t → SettledEntries D m area t
       → m.cell (trailer_at D area) ≡ settled (held (trailer_note D n) (trailer_data area D)) → m.cell (trailer_at D (other_area area)) ≡ settled blank
       → BlankFrom D m area 0 → SettledBacked D m t → Holds D m area n t
-  settled-holds m area n t few long ok entries own other log backed s l = (
+  settled_holds m area n t few long ok entries own other log backed s l = (
     0,
     record {
       active = record { own = record { small = few; is = way (trailer_at D area) _ own }; other = inl (λ c. subst Counts (way (trailer_at D (other_area area)) blank other) c) };
       base = t;
-      entries = entered-whole s area t long ok (λ j k. way (entry_page_at area j) _ (entries j k));
-      log = log-blank s area t (λ i k. way (log_page_at D area i) blank (log i (omega arith) k));
-      backed = backed-settled m t s (λ i x _ e. way (data_page_at i) x e) backed;
+      entries = entered_whole s area t long ok (λ j k. way (entry_page_at area j) _ (entries j k));
+      log = log_blank s area t (λ i k. way (log_page_at D area i) blank (log i (omega arith) k));
+      backed = backed_settled m t s (λ i x _ e. way (data_page_at i) x e) backed;
     },
   )
     where
       way : (q : ℕ) (x : State) → m.cell q ≡ settled x → s q ≡ x
       way q x e = settled_way m.cell s q x l e
 
-  pub safe-steps : SafeSteps D
-  safe-steps = record {
+  pub safe_steps : SafeSteps D
+  safe_steps = record {
     data_page = data_page;
     data_block = data_block;
     other_block = other_block;
@@ -458,7 +458,7 @@ module _ (D : ℕ) (small : D ≤ 448) where
     next_log = next_log;
     log_committed = log_committed;
     trailer_committed = trailer_committed;
-    formed = settled-holds;
+    formed = settled_holds;
     either_syncing = λ m m' area n t area' n' t' r h call s l. h s (chip_cuts.at_sync m m' r s call l);
     either_powering = λ m m' area n t area' n' t' r h call s l. h s (chip_cuts.at_power_on m m' r s call l);
     reading = λ m m' area n t p buf after r h call s l. h s (chip_cuts.at_read m m' p buf after r s call l);

@@ -19,7 +19,7 @@ use Rattle.crash.specs.Crash.{Holds, SettledBacked, BlankFrom, SettledEntries}
 use Rattle.crash.specs.Orders.{put_seven}
 use Rattle.crash.specs.Examples.{small_chip, with_seven, OneSyncExample, EraseFirstExample}
 use Rattle.crash.proofs.Ways.{settled_way}
-use Rattle.crash.proofs.Cuts.{settled-holds}
+use Rattle.crash.proofs.Cuts.{settled_holds}
 use Rattle.crash.proofs.Orders.{one_sync_loses, erase_first_loses, seven_proper}
 
 -- entries without marks
@@ -61,38 +61,38 @@ seven_table = record { entries = (omega arith, nothing_proper (map (emptied 7) (
     apart (suc i) j a x y = absurd (nothing_held (map (emptied 7) (replicate 31 empty)) i a (nothing_left 31) x)
 
 module _ (t : Table) (first : Cell State) where
-  entries-there : SettledEntries 32 (small_chip t first) One t
-  entries-there zero l = refl
-  entries-there (suc j) l = absurd (omega arith)
+  entries_there : SettledEntries 32 (small_chip t first) One t
+  entries_there zero l = refl
+  entries_there (suc j) l = absurd (omega arith)
 
-  log-free : BlankFrom 32 (small_chip t first) One 0
-  log-free k a b =
+  log_free : BlankFrom 32 (small_chip t first) One 0
+  log_free k a b =
       rw (
         ne_eqb (log_page_at 32 One k) (entry_page_at One 0) (λ e. omega arith),
         ne_eqb (log_page_at 32 One k) (trailer_at 32 One) (λ e. omega arith),
         ne_eqb (log_page_at 32 One k) (data_page_at 0) (λ e. omega arith),
       )
 
-  chip-holds : length t ≡ 32 → ProperTable t → SettledBacked 32 (small_chip t first) t → Holds 32 (small_chip t first) One 0 t
-  chip-holds long ok backed =
-      settled-holds 32 (omega arith) (small_chip t first) One 0 t (omega arith) long ok entries-there refl refl log-free backed
+  chip_holds : length t ≡ 32 → ProperTable t → SettledBacked 32 (small_chip t first) t → Holds 32 (small_chip t first) One 0 t
+  chip_holds long ok backed =
+      settled_holds 32 (omega arith) (small_chip t first) One 0 t (omega arith) long ok entries_there refl refl log_free backed
 
 pub one_sync_example : OneSyncExample
 unfolding cells_page
 one_sync_example bytes =
     let first : Cell State = unsettled blank (held (data_note 7) bytes) in
     let there : Holds 32 (small_chip (empty_table 32) first) One 0 (empty_table 32) =
-    chip-holds (empty_table 32) first refl empty_proper (λ i l k. absurd (true≢false (sym k ∙ nothing_marked (empty_table 32) i (nothing_here 32)))) in (
+    chip_holds (empty_table 32) first refl empty_proper (λ i l k. absurd (true≢false (sym k ∙ nothing_marked (empty_table 32) i (nothing_here 32)))) in (
       there,
       one_sync_loses 32 (omega arith) (small_chip (empty_table 32) first) One 0 (empty_table 32) with_seven 0 0 (held (data_note 7) bytes) put_seven there (omega arith)
-          (log-free (empty_table 32) first) seven_proper refl (omega arith) refl refl refl refl,
+          (log_free (empty_table 32) first) seven_proper refl (omega arith) refl refl refl refl,
     )
 
 pub erase_first_example : EraseFirstExample
 unfolding unsettled_in
 erase_first_example bytes =
     let m : Pages = small_chip with_seven (settled (held (data_note 7) bytes)) in
-    let there : Holds 32 m One 0 with_seven = chip-holds with_seven (settled (held (data_note 7) bytes)) refl seven_table backed in
+    let there : Holds 32 m One 0 with_seven = chip_holds with_seven (settled (held (data_note 7) bytes)) refl seven_table backed in
     let after : Pages = record { on = true; size = 12; cell = erased_block m 8 } in
     let call : Erases m 8 (Ok tt) after = (refl, tt, record { power = refl; size = refl; cells = λ q. inl refl }) in
     (there, (after, call, erase_first_loses 32 m after One 0 with_seven 0 there (omega arith) refl call))

@@ -28,23 +28,23 @@ module _ (m : Pages) (p : ℕ) (note : Note) (bytes : List ℕ) (was : m.cell p 
   pub before_here : before p ≡ blank
   before_here = rw (eq-eqb p p refl)
 
-  pub before-elsewhere : (q : ℕ) → (q ≡ p → ⊥) → s q ≡ before q
-  before-elsewhere q ne = rw (ne_eqb q p ne)
+  pub before_elsewhere : (q : ℕ) → (q ≡ p → ⊥) → s q ≡ before q
+  before_elsewhere q ne = rw (ne_eqb q p ne)
 
-  pub before-leaves : Leaves Tears m.cell before
-  before-leaves q =
+  pub before_leaves : Leaves Tears m.cell before
+  before_leaves q =
       ⊎_elim
       (λ (e : q ≡ p). rw (eq-eqb q p e, e, was))
       (λ (ne : q ≡ p → ⊥). rw (ne_eqb q p ne) (subst (λ c. Ends Tears c (s q)) (rw (ne_eqb q p ne)) (l q)))
       (cases_eq q p)
 
-  pub page-ways : (s p ≡ blank) ⊎ ((s p ≡ held note bytes) ⊎ (s p ≡ torn))
-  page-ways =
+  pub page_ways : (s p ≡ blank) ⊎ ((s p ≡ held note bytes) ⊎ (s p ≡ torn))
+  page_ways =
       let e : programmed m p note bytes p ≡ unsettled blank (held note bytes) = rw (eq-eqb p p refl) in
       subst (λ c. Ends Tears c (s p)) e (l p)
 
-  pub others-settled : (q : ℕ) (x : State) → (q ≡ p → ⊥) → m.cell q ≡ settled x → s q ≡ x
-  others-settled q x ne e = before-elsewhere q ne ∙ settled_way m.cell before q x before-leaves e
+  pub others_settled : (q : ℕ) (x : State) → (q ≡ p → ⊥) → m.cell q ≡ settled x → s q ≡ x
+  others_settled q x ne e = before_elsewhere q ne ∙ settled_way m.cell before q x before_leaves e
 
 -- Around the erase of a block.
 module _ (m : Pages) (b : ℕ) (s : ℕ → State) (l : Leaves Tears (erased_block m b) s) where
@@ -52,28 +52,28 @@ module _ (m : Pages) (b : ℕ) (s : ℕ → State) (l : Leaves Tears (erased_blo
   abbrev pub unerased : ℕ → State
   unerased q = cond (eqb (block_of q) b) (reads (m.cell q)) (s q)
 
-  pub unerased-elsewhere : (q : ℕ) → (block_of q ≡ b → ⊥) → s q ≡ unerased q
-  unerased-elsewhere q ne = rw (ne_eqb (block_of q) b ne)
+  pub unerased_elsewhere : (q : ℕ) → (block_of q ≡ b → ⊥) → s q ≡ unerased q
+  unerased_elsewhere q ne = rw (ne_eqb (block_of q) b ne)
 
-  pub unerased-leaves : Leaves Tears m.cell unerased
-  unerased-leaves q =
+  pub unerased_leaves : Leaves Tears m.cell unerased
+  unerased_leaves q =
       ⊎_elim
       (λ (t : eqb (block_of q) b ≡ true). rw t (ends_reads Tears (m.cell q) (reads (m.cell q)) refl))
       (λ (t : eqb (block_of q) b ≡ false). rw t (subst (λ c. Ends Tears c (s q)) (rw t) (l q)))
       (cases_Bool (eqb (block_of q) b))
 
-  erased-cell-ways : (c : Cell State) (x : State) → is_unsettled c ≡ false → Ends Tears (erased c) x → (x ≡ reads c) ⊎ ((x ≡ blank) ⊎ (x ≡ torn))
-  erased-cell-ways (settled blank) x u h = inl h
-  erased-cell-ways (settled torn) x u (inl h) = inl h
-  erased-cell-ways (settled torn) x u (inr (inl h)) = inr (inl h)
-  erased-cell-ways (settled torn) x u (inr (inr h)) = inr (inr h)
-  erased-cell-ways (settled (held note bytes)) x u (inl h) = inl h
-  erased-cell-ways (settled (held note bytes)) x u (inr (inl h)) = inr (inl h)
-  erased-cell-ways (settled (held note bytes)) x u (inr (inr h)) = inr (inr h)
-  erased-cell-ways (unsettled was y) x u h = grind arith
+  erased_cell_ways : (c : Cell State) (x : State) → is_unsettled c ≡ false → Ends Tears (erased c) x → (x ≡ reads c) ⊎ ((x ≡ blank) ⊎ (x ≡ torn))
+  erased_cell_ways (settled blank) x u h = inl h
+  erased_cell_ways (settled torn) x u (inl h) = inl h
+  erased_cell_ways (settled torn) x u (inr (inl h)) = inr (inl h)
+  erased_cell_ways (settled torn) x u (inr (inr h)) = inr (inr h)
+  erased_cell_ways (settled (held note bytes)) x u (inl h) = inl h
+  erased_cell_ways (settled (held note bytes)) x u (inr (inl h)) = inr (inl h)
+  erased_cell_ways (settled (held note bytes)) x u (inr (inr h)) = inr (inr h)
+  erased_cell_ways (unsettled was y) x u h = grind arith
 
   -- a page of the block is as it was, blank or torn
-  pub block-ways : (q : ℕ) → block_of q ≡ b → is_unsettled (m.cell q) ≡ false → (s q ≡ unerased q) ⊎ ((s q ≡ blank) ⊎ (s q ≡ torn))
-  block-ways q e u =
+  pub block_ways : (q : ℕ) → block_of q ≡ b → is_unsettled (m.cell q) ≡ false → (s q ≡ unerased q) ⊎ ((s q ≡ blank) ⊎ (s q ≡ torn))
+  block_ways q e u =
       let t : eqb (block_of q) b ≡ true = eq-eqb (block_of q) b e in
-      rw t (erased-cell-ways (m.cell q) (s q) u (subst (λ c. Ends Tears c (s q)) (rw t) (l q)))
+      rw t (erased_cell_ways (m.cell q) (s q) u (subst (λ c. Ends Tears c (s q)) (rw t) (l q)))

@@ -10,7 +10,7 @@ use Rattle.device.specs.Calls.{wanted, in_order}
 use Rattle.device.specs.Chips.{Note, State, Pages, Tears, page_count, block_of, Reads, Programs, program_refusal, program_at, programmed, Erases, erase_refusal, erased, erased_block, unsettled_in, Syncs, synced, Powers}
 use Rattle.device.specs.Chips.State.{blank, torn, held}
 use Rattle.device.specs.Laws.{ChipReads, ChipCuts, ReadsSame}
-use Rattle.device.proofs.Settling.{in_order_met, early_reads, call-cuts, served-ways, halted-ways, same-ways, sync-ways, sync-halted-ways, power-ways, power-halted-ways, wanted_none, wanted_some, call_reads_same}
+use Rattle.device.proofs.Settling.{in_order_met, early_reads, call_cuts, served_ways, halted_ways, same_ways, sync_ways, sync_halted_ways, power_ways, power_halted_ways, wanted_none, wanted_some, call_reads_same}
 
 program_at_blank : (p : ℕ) (c : Cell State) → program_at p c ≡ None → c ≡ settled blank
 program_at_blank p (settled blank) h = refl
@@ -47,27 +47,27 @@ block_widens m b i s h =
 pub chip_cuts : ChipCuts
 chip_cuts = record {
   at_read = λ m n p buf after r s k h.
-      call-cuts Tears _ _ m n _ _ _ _ m.cell s r (λ f e. same-ways Tears m m.cell s) (λ e. served-ways Tears m m.cell s)
-      (λ e. halted-ways Tears m m.cell s (λ i x. x)) k h;
+      call_cuts Tears _ _ m n _ _ _ _ m.cell s r (λ f e. same_ways Tears m m.cell s) (λ e. served_ways Tears m m.cell s)
+      (λ e. halted_ways Tears m m.cell s (λ i x. x)) k h;
   at_program = λ m n p note bytes r s k h.
-      call-cuts Tears _ _ m n _ _ _ _ (wanted (program_refusal m p (length bytes)) m (programmed m p note bytes)) s r
-      (λ f e i c g x. wanted_some _ m _ (λ z. Ends Tears z (s i)) i f e (same-ways Tears m m.cell s i c g x))
-      (λ e i c g x. wanted_none _ m _ (λ z. Ends Tears z (s i)) i e (served-ways Tears m (programmed m p note bytes) s i c g x))
+      call_cuts Tears _ _ m n _ _ _ _ (wanted (program_refusal m p (length bytes)) m (programmed m p note bytes)) s r
+      (λ f e i c g x. wanted_some _ m _ (λ z. Ends Tears z (s i)) i f e (same_ways Tears m m.cell s i c g x))
+      (λ e i c g x. wanted_none _ m _ (λ z. Ends Tears z (s i)) i e (served_ways Tears m (programmed m p note bytes) s i c g x))
       (λ e i c g x. wanted_none _ m _ (λ z. Ends Tears z (s i)) i e
-      (halted-ways Tears m (programmed m p note bytes) s (λ j. programmed_widens m p note bytes (program_blank m p (length bytes) e) j (s j)) i c g x))
+      (halted_ways Tears m (programmed m p note bytes) s (λ j. programmed_widens m p note bytes (program_blank m p (length bytes) e) j (s j)) i c g x))
       k h;
   at_erase = λ m n b r s k h.
-      call-cuts Tears _ _ m n _ _ _ _ (wanted (erase_refusal m b) m (erased_block m b)) s r
-      (λ f e i c g x. wanted_some _ m _ (λ z. Ends Tears z (s i)) i f e (same-ways Tears m m.cell s i c g x))
-      (λ e i c g x. wanted_none _ m _ (λ z. Ends Tears z (s i)) i e (served-ways Tears m (erased_block m b) s i c g x))
-      (λ e i c g x. wanted_none _ m _ (λ z. Ends Tears z (s i)) i e (halted-ways Tears m (erased_block m b) s (λ j. block_widens m b j (s j)) i c g x))
+      call_cuts Tears _ _ m n _ _ _ _ (wanted (erase_refusal m b) m (erased_block m b)) s r
+      (λ f e i c g x. wanted_some _ m _ (λ z. Ends Tears z (s i)) i f e (same_ways Tears m m.cell s i c g x))
+      (λ e i c g x. wanted_none _ m _ (λ z. Ends Tears z (s i)) i e (served_ways Tears m (erased_block m b) s i c g x))
+      (λ e i c g x. wanted_none _ m _ (λ z. Ends Tears z (s i)) i e (halted_ways Tears m (erased_block m b) s (λ j. block_widens m b j (s j)) i c g x))
       k h;
   at_sync = λ m n r s k h.
-      call-cuts Tears _ _ m n _ _ _ _ m.cell s r (λ f e. same-ways Tears m m.cell s) (λ e. sync-ways Tears m m.cell s)
-      (λ e. sync-halted-ways Tears m m.cell s) k h;
+      call_cuts Tears _ _ m n _ _ _ _ m.cell s r (λ f e. same_ways Tears m m.cell s) (λ e. sync_ways Tears m m.cell s)
+      (λ e. sync_halted_ways Tears m m.cell s) k h;
   at_power_on = λ m n r s k h.
-      call-cuts Tears _ _ m n _ _ _ _ m.cell s r (λ f e. same-ways Tears m m.cell s) (λ e. power-ways Tears m m.cell s)
-      (λ e. power-halted-ways Tears m m.cell s) k h;
+      call_cuts Tears _ _ m n _ _ _ _ m.cell s r (λ f e. same_ways Tears m m.cell s) (λ e. power_ways Tears m m.cell s)
+      (λ e. power_halted_ways Tears m m.cell s) k h;
 }
 
 -- no page of the block is unsettled, if none of the first k is

@@ -12,7 +12,7 @@ use Rattle.device.specs.Calls.{wanted, in_order, Halted}
 use Rattle.device.specs.Chips.{synced}
 use Rattle.device.specs.Disks.{Blocks, Never, BlockWrites, block_write_refusal, written, WriteHalted}
 use Rattle.device.specs.Laws.{DiskCuts}
-use Rattle.device.proofs.Settling.{in_order_met, ends_reads, call-cuts, served-ways, halted-ways, same-ways, sync-ways, sync-halted-ways, power-ways, power-halted-ways, wanted_none, wanted_some}
+use Rattle.device.proofs.Settling.{in_order_met, ends_reads, call_cuts, served_ways, halted_ways, same_ways, sync_ways, sync_halted_ways, power_ways, power_halted_ways, wanted_none, wanted_some}
 
 settled_is : {S : Type 0} (c : Cell S) → is_unsettled c ≡ false → c ≡ settled (reads c)
 settled_is (settled s) h = refl
@@ -38,25 +38,25 @@ written_widens m b bytes e i s h =
 
 write_halted_ways : (m : Blocks) (b : ℕ) (bytes : List ℕ) (s : ℕ → List ℕ) → m.cell b ≡ settled (reads (m.cell b)) → (i : ℕ) (c : Cell (List ℕ))
     → WriteHalted m b bytes i c → Ends Never c (s i) → Ends Never (written m b bytes i) (s i)
-write_halted_ways m b bytes s e i c (inl k) h = halted-ways Never m (written m b bytes) s (λ j. written_widens m b bytes e j (s j)) i c k h
+write_halted_ways m b bytes s e i c (inl k) h = halted_ways Never m (written m b bytes) s (λ j. written_widens m b bytes e j (s j)) i c k h
 write_halted_ways m b bytes s e i c (inr (t, k)) h =
     rw (eq-eqb i b t) (inr (inl (subst (λ z. Ends Never z (s i)) k h)))
 
 pub disk_cuts : DiskCuts
 disk_cuts = record {
   at_read = λ layer off off' m n b buf after r s k h.
-      call-cuts Never _ _ m n _ _ _ _ m.cell s r (λ f e. same-ways Never m m.cell s) (λ e. served-ways Never m m.cell s)
-      (λ e. halted-ways Never m m.cell s (λ i x. x)) k h;
+      call_cuts Never _ _ m n _ _ _ _ m.cell s r (λ f e. same_ways Never m m.cell s) (λ e. served_ways Never m m.cell s)
+      (λ e. halted_ways Never m m.cell s (λ i x. x)) k h;
   at_write = λ layer off off' m n b bytes r s k h.
-      call-cuts Never _ _ m n _ _ _ _ (wanted (block_write_refusal layer off m b (length bytes)) m (written m b bytes)) s r
-      (λ f e i c g x. wanted_some _ m _ (λ z. Ends Never z (s i)) i f e (same-ways Never m m.cell s i c g x))
-      (λ e i c g x. wanted_none _ m _ (λ z. Ends Never z (s i)) i e (served-ways Never m (written m b bytes) s i c g x))
+      call_cuts Never _ _ m n _ _ _ _ (wanted (block_write_refusal layer off m b (length bytes)) m (written m b bytes)) s r
+      (λ f e i c g x. wanted_some _ m _ (λ z. Ends Never z (s i)) i f e (same_ways Never m m.cell s i c g x))
+      (λ e i c g x. wanted_none _ m _ (λ z. Ends Never z (s i)) i e (served_ways Never m (written m b bytes) s i c g x))
       (λ e i c g x. wanted_none _ m _ (λ z. Ends Never z (s i)) i e (write_halted_ways m b bytes s (write_settled layer off m b (length bytes) e) i c g x))
       k h;
   at_sync = λ off off' m n r s k h.
-      call-cuts Never _ _ m n _ _ _ _ m.cell s r (λ f e. same-ways Never m m.cell s) (λ e. sync-ways Never m m.cell s)
-      (λ e. sync-halted-ways Never m m.cell s) k h;
+      call_cuts Never _ _ m n _ _ _ _ m.cell s r (λ f e. same_ways Never m m.cell s) (λ e. sync_ways Never m m.cell s)
+      (λ e. sync_halted_ways Never m m.cell s) k h;
   at_power_on = λ off' m n r s k h.
-      call-cuts Never _ _ m n _ _ _ _ m.cell s r (λ f e. same-ways Never m m.cell s) (λ e. power-ways Never m m.cell s)
-      (λ e. power-halted-ways Never m m.cell s) k h;
+      call_cuts Never _ _ m n _ _ _ _ m.cell s r (λ f e. same_ways Never m m.cell s) (λ e. power_ways Never m m.cell s)
+      (λ e. power_halted_ways Never m m.cell s) k h;
 }

@@ -43,46 +43,46 @@ cut_ends O c d s (x, e, k) h = let t : s ≡ x = subst (λ z. Ends O z s) e h in
 
 -- The ways of a cut after a whole call: W are the cells to be shown, and each outcome leaves nothing but a way of W.
 module _ {S T : Type 0} (O : S → Type 0) (refusal : Option Fault) (lost : Fault) (m n : Meaning S) (served halted : ℕ → Cell S → Type 0) (ok : T → Type 0) (same : Type 0) (W : ℕ → Cell S) (s : ℕ → S) where
-  abbrev pub Keeps-ways : (ℕ → Cell S → Type 0) → Type 0
-  Keeps-ways each = (i : ℕ) (c : Cell S) → each i c → Ends O c (s i) → Ends O (W i) (s i)
+  abbrev pub KeepsWays : (ℕ → Cell S → Type 0) → Type 0
+  KeepsWays each = (i : ℕ) (c : Cell S) → each i c → Ends O c (s i) → Ends O (W i) (s i)
 
-  pub call-cuts : (r : Result T Fault)
-      → ((f : Fault) → refusal ≡ Some f → Keeps-ways (λ i c. c ≡ m.cell i))
-      → (refusal ≡ None → Keeps-ways served)
-      → (refusal ≡ None → Keeps-ways halted)
+  pub call_cuts : (r : Result T Fault)
+      → ((f : Fault) → refusal ≡ Some f → KeepsWays (λ i c. c ≡ m.cell i))
+      → (refusal ≡ None → KeepsWays served)
+      → (refusal ≡ None → KeepsWays halted)
       → Call refusal lost m served halted ok same r n → Leaves O n.cell s → Leaves O W s
-  call-cuts (Ok x) a b c (e, _, k) h i = b e i (n.cell i) (k.cells i) (h i)
-  call-cuts (Err f) a b c (_, inl (e, k)) h i = a f e i (n.cell i) (ap (λ z. z.cell i) k) (h i)
-  call-cuts (Err f) a b c (_, inr (e, _, k)) h i = c e i (n.cell i) (k.cells i) (h i)
+  call_cuts (Ok x) a b c (e, _, k) h i = b e i (n.cell i) (k.cells i) (h i)
+  call_cuts (Err f) a b c (_, inl (e, k)) h i = a f e i (n.cell i) (ap (λ z. z.cell i) k) (h i)
+  call_cuts (Err f) a b c (_, inr (e, _, k)) h i = c e i (n.cell i) (k.cells i) (h i)
 
 -- The same where every outcome settles early, or leaves cells as they were or as wanted.
 module _ {S : Type 0} (O : S → Type 0) (m : Meaning S) (want : ℕ → Cell S) (s : ℕ → S) where
-  pub served-ways : (i : ℕ) (c : Cell S) → Served want i c → Ends O c (s i) → Ends O (want i) (s i)
-  served-ways i c e h = early_ends O (want i) c (s i) e h
+  pub served_ways : (i : ℕ) (c : Cell S) → Served want i c → Ends O c (s i) → Ends O (want i) (s i)
+  served_ways i c e h = early_ends O (want i) c (s i) e h
 
-  pub halted-ways : ((i : ℕ) → Ends O (m.cell i) (s i) → Ends O (want i) (s i)) → (i : ℕ) (c : Cell S) → Halted m want i c → Ends O c (s i) → Ends O (want i) (s i)
-  halted-ways widens i c (inl e) h = widens i (subst (λ z. Ends O z (s i)) e h)
-  halted-ways widens i c (inr e) h = subst (λ z. Ends O z (s i)) e h
+  pub halted_ways : ((i : ℕ) → Ends O (m.cell i) (s i) → Ends O (want i) (s i)) → (i : ℕ) (c : Cell S) → Halted m want i c → Ends O c (s i) → Ends O (want i) (s i)
+  halted_ways widens i c (inl e) h = widens i (subst (λ z. Ends O z (s i)) e h)
+  halted_ways widens i c (inr e) h = subst (λ z. Ends O z (s i)) e h
 
   -- a call that wants cells as they were
-  pub same-ways : (i : ℕ) (c : Cell S) → c ≡ m.cell i → Ends O c (s i) → Ends O (m.cell i) (s i)
-  same-ways i c e h = subst (λ z. Ends O z (s i)) e h
+  pub same_ways : (i : ℕ) (c : Cell S) → c ≡ m.cell i → Ends O c (s i) → Ends O (m.cell i) (s i)
+  same_ways i c e h = subst (λ z. Ends O z (s i)) e h
 
   -- a sync
-  pub sync-ways : (i : ℕ) (c : Cell S) → Served (λ q. settled (reads (m.cell q))) i c → Ends O c (s i) → Ends O (m.cell i) (s i)
-  sync-ways i c e h = let t : s i ≡ reads (m.cell i) = subst (λ z. Ends O z (s i)) (early_settled _ _ e) h in ends_reads O (m.cell i) (s i) t
+  pub sync_ways : (i : ℕ) (c : Cell S) → Served (λ q. settled (reads (m.cell q))) i c → Ends O c (s i) → Ends O (m.cell i) (s i)
+  sync_ways i c e h = let t : s i ≡ reads (m.cell i) = subst (λ z. Ends O z (s i)) (early_settled _ _ e) h in ends_reads O (m.cell i) (s i) t
 
-  pub sync-halted-ways : (i : ℕ) (c : Cell S) → Halted m (λ q. settled (reads (m.cell q))) i c → Ends O c (s i) → Ends O (m.cell i) (s i)
-  sync-halted-ways i c (inl e) h = same-ways i c e h
-  sync-halted-ways i c (inr e) h = sync-ways i c (inl e) h
+  pub sync_halted_ways : (i : ℕ) (c : Cell S) → Halted m (λ q. settled (reads (m.cell q))) i c → Ends O c (s i) → Ends O (m.cell i) (s i)
+  sync_halted_ways i c (inl e) h = same_ways i c e h
+  sync_halted_ways i c (inr e) h = sync_ways i c (inl e) h
 
   -- a power-on
-  pub power-ways : (i : ℕ) (c : Cell S) → Cut O (m.cell i) c → Ends O c (s i) → Ends O (m.cell i) (s i)
-  power-ways i c k h = cut_ends O (m.cell i) c (s i) k h
+  pub power_ways : (i : ℕ) (c : Cell S) → Cut O (m.cell i) c → Ends O c (s i) → Ends O (m.cell i) (s i)
+  power_ways i c k h = cut_ends O (m.cell i) c (s i) k h
 
-  pub power-halted-ways : (i : ℕ) (c : Cell S) → (c ≡ m.cell i) ⊎ Cut O (m.cell i) c → Ends O c (s i) → Ends O (m.cell i) (s i)
-  power-halted-ways i c (inl e) h = same-ways i c e h
-  power-halted-ways i c (inr k) h = power-ways i c k h
+  pub power_halted_ways : (i : ℕ) (c : Cell S) → (c ≡ m.cell i) ⊎ Cut O (m.cell i) c → Ends O c (s i) → Ends O (m.cell i) (s i)
+  power_halted_ways i c (inl e) h = same_ways i c e h
+  power_halted_ways i c (inr k) h = power_ways i c k h
 
 -- the cells as wanted, by whether the conditions refuse
 pub wanted_none : {S : Type 0} (refusal : Option Fault) (m : Meaning S) (want : ℕ → Cell S) (P : Cell S → Type 0) (i : ℕ) → refusal ≡ None → P (want i) → P (wanted refusal m want i)

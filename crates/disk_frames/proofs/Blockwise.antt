@@ -43,29 +43,29 @@ module _ (xs : List ℕ) (b : ℕ) (inside : b < blocks_in xs) where
   pub block_here : block_in xs b ≡ block_of_frame (frame_of xs b)
   block_here = rw (lt-ltb b (blocks_in xs) inside)
 
-  reads-by : (t : Bool) (old new : List ℕ) → (is_unsettled (cond t (unsettled old new) (settled old)) ≡ t) × (reads (cond t (unsettled old new) (settled old)) ≡ cond t new old)
-  reads-by true old new = (refl, refl)
-  reads-by false old new = (refl, refl)
+  reads_by : (t : Bool) (old new : List ℕ) → (is_unsettled (cond t (unsettled old new) (settled old)) ≡ t) × (reads (cond t (unsettled old new) (settled old)) ≡ cond t new old)
+  reads_by true old new = (refl, refl)
+  reads_by false old new = (refl, refl)
 
-  pub unsettled-by-state : is_unsettled (block_in xs b) ≡ eqb (get_or xs (1026 * b) 0) 1
-  unsettled-by-state = rw block_here (reads-by (eqb (get_or xs (1026 * b) 0) 1) (settled_at xs (1026 * b)) (new_at xs (1026 * b))).0
+  pub unsettled_by_state : is_unsettled (block_in xs b) ≡ eqb (get_or xs (1026 * b) 0) 1
+  unsettled_by_state = rw block_here (reads_by (eqb (get_or xs (1026 * b) 0) 1) (settled_at xs (1026 * b)) (new_at xs (1026 * b))).0
 
-  reads-by-state : reads (block_in xs b) ≡ cond (eqb (get_or xs (1026 * b) 0) 1) (new_at xs (1026 * b)) (settled_at xs (1026 * b))
-  reads-by-state = rw block_here (reads-by (eqb (get_or xs (1026 * b) 0) 1) (settled_at xs (1026 * b)) (new_at xs (1026 * b))).1
+  reads_by_state : reads (block_in xs b) ≡ cond (eqb (get_or xs (1026 * b) 0) 1) (new_at xs (1026 * b)) (settled_at xs (1026 * b))
+  reads_by_state = rw block_here (reads_by (eqb (get_or xs (1026 * b) 0) 1) (settled_at xs (1026 * b)) (new_at xs (1026 * b))).1
 
-  pub reads-settled : false ≡ is_unsettled (block_in xs b) → settled_at xs (1026 * b) ≡ reads (block_in xs b)
-  reads-settled h =
-      let t : eqb (get_or xs (1026 * b) 0) 1 ≡ false = sym unsettled-by-state ∙ sym h in
-      sym (reads-by-state ∙ rw t)
+  pub reads_settled : false ≡ is_unsettled (block_in xs b) → settled_at xs (1026 * b) ≡ reads (block_in xs b)
+  reads_settled h =
+      let t : eqb (get_or xs (1026 * b) 0) 1 ≡ false = sym unsettled_by_state ∙ sym h in
+      sym (reads_by_state ∙ rw t)
 
 -- A write changes its own block only.
 module _ (on : Bool) (xs ys bytes : List ℕ) (b : ℕ) (inside : b < blocks_in xs) (still : is_unsettled (block_in xs b) ≡ false) (len : length ys ≡ length xs) (change : ChangesOne (written_frame bytes) b xs ys) where
-  pub written-blocks : (q : ℕ) → block_in ys q ≡ written (image_blocks on xs) b bytes q
-  written-blocks q = ⊎_elim
+  pub written_blocks : (q : ℕ) → block_in ys q ≡ written (image_blocks on xs) b bytes q
+  written_blocks q = ⊎_elim
       (λ (h : q ≡ b).
       let e : frame_of ys q ≡ written_frame bytes (frame_of xs b) = change q ∙ rw (eq-eqb q b h, h) in
       rw (eq-eqb q b h, len, lt-ltb q (blocks_in xs) (omega arith))
-      (ap block_of_frame e ∙ ap (λ z. unsettled z bytes) (reads-settled xs b inside (sym still))))
+      (ap block_of_frame e ∙ ap (λ z. unsettled z bytes) (reads_settled xs b inside (sym still))))
       (λ (h : q ≡ b → ⊥).
       let e : frame_of ys q ≡ frame_of xs q = change q ∙ rw (ne_eqb q b h) in
       rw (ne_eqb q b h, len) (ap (λ z. cond (ltb q (blocks_in xs)) (block_of_frame z) (settled [])) e))

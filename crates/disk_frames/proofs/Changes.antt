@@ -4,7 +4,7 @@ use borrow.Rule.Slice.PartMut.{put_mid}
 use Rattle.std.proofs.lemmas.List.{length-set}
 use Rattle.std.proofs.lemmas.Bool.{eq-eqb, ne_eqb, cases_order}
 use Rattle.disk_frames.specs.Frames.{Frame, frame_of, blocks_in, with_state, with_new, with_new_kept, ChangesOne}
-use Rattle.disk_frames.proofs.Bytes.{same-frame, state-outside, state-frame, new-length, new-outside, new-frame, kept-outside, kept_frame}
+use Rattle.disk_frames.proofs.Bytes.{same_frame, state_outside, state_frame, new_length, new_outside, new_frame, kept_outside, kept_frame}
 
 -- The frame of block b is changed, and no byte outside it.
 pub one_changed : (f : Frame → Frame) (xs ys : List ℕ) (b : ℕ) → length ys ≡ length xs
@@ -14,32 +14,32 @@ one_changed f xs ys b len others e q = go (cases_order q b)
   where
     go : (q ≡ b) ⊎ ((q < b) ⊎ (b < q)) → frame_of ys q ≡ cond (eqb q b) (f (frame_of xs q)) (frame_of xs q)
     go (inl h) = rw (eq-eqb q b h, h) e
-    go (inr (inl h)) = rw (ne_eqb q b (omega arith)) (same-frame xs ys len (1026 * q) (λ k l u. others k (inl (omega arith))))
-    go (inr (inr h)) = rw (ne_eqb q b (omega arith)) (same-frame xs ys len (1026 * q) (λ k l u. others k (inr (omega arith))))
+    go (inr (inl h)) = rw (ne_eqb q b (omega arith)) (same_frame xs ys len (1026 * q) (λ k l u. others k (inl (omega arith))))
+    go (inr (inr h)) = rw (ne_eqb q b (omega arith)) (same_frame xs ys len (1026 * q) (λ k l u. others k (inr (omega arith))))
 
 -- The three writes to a frame.
 module _ (xs : List ℕ) (b : ℕ) (inside : b < blocks_in xs) where
-  whole-frame : 1026 * b + 1026 ≤ length xs
-  whole-frame = omega arith
+  whole_frame : 1026 * b + 1026 ≤ length xs
+  whole_frame = omega arith
 
-  pub state-set : (s : ℕ) → ChangesOne (with_state s) b xs (set xs (1026 * b) s)
-  state-set s =
-      one_changed (with_state s) xs (set xs (1026 * b) s) b (length-set xs (1026 * b) s) (state-outside xs (1026 * b) whole-frame s)
-      (state-frame xs (1026 * b) whole-frame s)
+  pub state_set : (s : ℕ) → ChangesOne (with_state s) b xs (set xs (1026 * b) s)
+  state_set s =
+      one_changed (with_state s) xs (set xs (1026 * b) s) b (length-set xs (1026 * b) s) (state_outside xs (1026 * b) whole_frame s)
+      (state_frame xs (1026 * b) whole_frame s)
 
-  pub new-set : (bytes : List ℕ) (k : ℕ) → k ≡ 512 → length bytes ≡ 512 → ChangesOne (with_new bytes) b xs (put_mid (1026 * b + 514) k xs bytes)
-  new-set bytes k size whole =
-      one_changed (with_new bytes) xs (put_mid (1026 * b + 514) k xs bytes) b (new-length xs (1026 * b) whole-frame bytes k size whole)
-      (new-outside xs (1026 * b) whole-frame bytes k size whole) (new-frame xs (1026 * b) whole-frame bytes k size whole)
+  pub new_set : (bytes : List ℕ) (k : ℕ) → k ≡ 512 → length bytes ≡ 512 → ChangesOne (with_new bytes) b xs (put_mid (1026 * b + 514) k xs bytes)
+  new_set bytes k size whole =
+      one_changed (with_new bytes) xs (put_mid (1026 * b + 514) k xs bytes) b (new_length xs (1026 * b) whole_frame bytes k size whole)
+      (new_outside xs (1026 * b) whole_frame bytes k size whole) (new_frame xs (1026 * b) whole_frame bytes k size whole)
 
   -- n bytes are copied
-  pub new-kept : (ys : List ℕ) (n : ℕ) → n ≡ 512 → length ys ≡ length xs
+  pub new_kept : (ys : List ℕ) (n : ℕ) → n ≡ 512 → length ys ≡ length xs
       → ((k d : ℕ) → 1026 * b + 2 ≤ k → k < 1026 * b + 2 + n → get_or ys k d ≡ get_or xs (1026 * b + 514 + (k - (1026 * b + 2))) d)
       → ((k d : ℕ) → k < 1026 * b + 2 → get_or ys k d ≡ get_or xs k d)
       → ((k d : ℕ) → 1026 * b + 2 + n ≤ k → get_or ys k d ≡ get_or xs k d)
       → ChangesOne with_new_kept b xs ys
-  new-kept ys n size len copied below above =
-      one_changed with_new_kept xs ys b len (kept-outside xs (1026 * b) whole-frame ys len moved same) (kept_frame xs (1026 * b) whole-frame ys len moved same)
+  new_kept ys n size len copied below above =
+      one_changed with_new_kept xs ys b len (kept_outside xs (1026 * b) whole_frame ys len moved same) (kept_frame xs (1026 * b) whole_frame ys len moved same)
     where
       moved : (k : ℕ) → 1026 * b + 2 ≤ k → k < 1026 * b + 514 → get_or ys k 0 ≡ get_or xs (1026 * b + 514 + (k - (1026 * b + 2))) 0
       moved k l h = copied k 0 l (omega arith)

@@ -13,7 +13,7 @@ use Rattle.recovery.specs.Looking.{shown}
 use Rattle.recovery.specs.Recovering.{IsData, Backed}
 use Rattle.table.specs.Tables.{Table, entry, empty, entry_at, has_mark, marked_at, holds, held, mark_of, entered, apply, next_table}
 use Rattle.table.proofs.Tablewise.{holds_parts, holds_one, held_at, held_page}
-use Rattle.table.proofs.Changing.{length-entered, entered_here, entered-other, entered_alone, alone_held, entered_proper, replayed_append}
+use Rattle.table.proofs.Changing.{length_entered, entered_here, entered_other, entered_alone, alone_held, entered_proper, replayed_append}
 use Rattle.space.specs.declared.blanks.Space.{Space}
 use Rattle.engine.specs.Moves.{mark_for, put_for, putting, must_commit}
 use Rattle.journal.specs.Notes.{Noted, staging, committed_pages}
@@ -22,7 +22,7 @@ use Rattle.journal.specs.Steps.{Commits}
 use Rattle.engine.specs.Works.{Onward, Holding, Enters}
 use Rattle.space.specs.Worlds.{World, world, committing}
 use Rattle.journal.proofs.Settledness.{lands_settled}
-use Rattle.engine.proofs.Roomily.{commit-world, commit-table, commit-holding}
+use Rattle.engine.proofs.Roomily.{commit_world, commit_table, commit_holding}
 
 pub marks : (dirty : Bool) → has_mark (mark_for dirty) ≡ true
 marks true = refl
@@ -55,29 +55,29 @@ must_by dirty r a w is (inr (e, y)) = cond-false dirty true (held w.noted.table 
 
 module _ (t : Table) (i : ℕ) (mark : Mark) (a : ℕ) where
   -- a page that has a mark still, and is not the new one, has the entry that it had
-  entered-stays : (j : ℕ) → j ≢ i → marked_at (entered t i mark a) j ≡ true → entry_at (entered t i mark a) j ≡ entry_at t j
-  entered-stays j ne h =
+  entered_stays : (j : ℕ) → j ≢ i → marked_at (entered t i mark a) j ≡ true → entry_at (entered t i mark a) j ≡ entry_at t j
+  entered_stays j ne h =
       let e = entry_at t j in
-      let s = entered-other t i mark a j ne in
+      let s = entered_other t i mark a j ne in
       ⊎_elim
       (λ (y : holds a e ≡ true). absurd (both_ways true (sym (ap (λ x. has_mark x.mark) (sym (cond-true (holds a e) empty e y) ∙ sym s) ∙ h)) refl))
       (λ (n : holds a e ≡ false). s ∙ cond-false (holds a e) empty e n)
       (cases_Bool (holds a e))
 
-  pub entered-backed : (D : ℕ) (pages : ℕ → State) → i < length t → Backed pages t D → IsData (pages (data_page_at i)) a → Backed pages (entered t i mark a) D
-  entered-backed D pages inside backed data-here j l h =
+  pub entered_backed : (D : ℕ) (pages : ℕ → State) → i < length t → Backed pages t D → IsData (pages (data_page_at i)) a → Backed pages (entered t i mark a) D
+  entered_backed D pages inside backed data-here j l h =
       ⊎_elim
       (λ (e : j ≡ i).
       let at : entry_at (entered t i mark a) j ≡ entry mark a = ap (entry_at (entered t i mark a)) e ∙ entered_here t i mark a inside in
       subst (IsData (pages (data_page_at j))) (sym (ap (λ x. x.address.0) at)) (subst (λ k. IsData (pages (data_page_at k)) a) (sym e) data-here))
       (λ (ne : j ≢ i).
-      let at = entered-stays j ne h in
+      let at = entered_stays j ne h in
       subst (IsData (pages (data_page_at j))) (sym (ap (λ x. x.address.0) at)) (backed j l (ap (λ x. has_mark x.mark) (sym at) ∙ h)))
       (cases_eq j i)
 
   -- everything that was held is held, and the address is
-  pub entered-onward : i < length t → marked_at t i ≡ false → has_mark mark ≡ true → Onward t (entered t i mark a)
-  entered-onward inside unmarked marked b h =
+  pub entered_onward : i < length t → marked_at t i ≡ false → has_mark mark ≡ true → Onward t (entered t i mark a)
+  entered_onward inside unmarked marked b h =
       ⊎_elim
       (λ (e : a ≡ b). subst (λ x. held (entered t i mark a) x ≡ true) e (alone_held (entered t i mark a) a i (entered_alone t i mark a inside marked)))
       (λ (ne : a ≡ b → ⊥). other ne (held_page t b h))
@@ -88,7 +88,7 @@ module _ (t : Table) (i : ℕ) (mark : Mark) (a : ℕ) where
           let e = entry_at t j in
           let apart : j ≢ i = λ same. both_ways (marked_at t i) unmarked (subst (λ x. marked_at t x ≡ true) same (holds_parts b e k).0) in
           let not_a : holds a e ≡ false = ⊎_elim (λ y. absurd (ne (holds_one a b e y k))) (λ n. n) (cases_Bool (holds a e)) in
-          held_at (entered t i mark a) b j (ap (holds b) (entered-other t i mark a j apart ∙ cond-false (holds a e) empty e not_a) ∙ k)
+          held_at (entered t i mark a) b j (ap (holds b) (entered_other t i mark a j apart ∙ cond-false (holds a e) empty e not_a) ∙ k)
 
 -- the record of a put does that to the table
 put_applies : (t : Table) (dirty : Bool) (i a : ℕ) → i < length t → marked_at t i ≡ false → apply t (put_for dirty i a) ≡ Some (entered t i (mark_for dirty) a)
@@ -118,8 +118,8 @@ put_staged dirty i a v v₁ r inside unmarked is after =
 
 module _ (D : ℕ) (dirty : Bool) (i a : ℕ) (m : Pages) (v : Noted) (room : length v.staged < 64) (inside : i < D) (unmarked : marked_at v.table i ≡ false)
     (data-here : IsData (shown m (data_page_at i)) a) (small : a < 4294967296) where
-  put-ready : (t : Table) → Ready D m v t → Ready D m (with_put dirty i a v) t
-  put-ready t h =
+  put_ready : (t : Table) → Ready D m v t → Ready D m (with_put dirty i a v) t
+  put_ready t h =
       let l : i < length v.table = subst (λ n. i < n) (sym h.long) inside in
       let more : D ≤ 448 = omega (arith, h.few, h.large) in
       record {
@@ -132,44 +132,44 @@ module _ (D : ℕ) (dirty : Bool) (i a : ℕ) (m : Pages) (v : Noted) (room : le
         makes = replayed_append (Some t) v.staged (put_for dirty i a ∷ []) ∙ ap (λ o. next_table o (put_for dirty i a)) h.makes ∙ put_applies v.table dirty i a l unmarked;
         room = omega (arith, length-append v.staged (put_for dirty i a ∷ []), room);
         records = All-push ProperRecord v.staged (put_for dirty i a) h.records (put_proper dirty i a (omega (arith, more, inside)) small);
-        long = length-entered v.table i (mark_for dirty) a ∙ h.long;
+        long = length_entered v.table i (mark_for dirty) a ∙ h.long;
         proper = entered_proper v.table h.proper i (mark_for dirty) a l (marks dirty) small;
         ends = h.ends;
         ahead = h.ahead;
         areas = h.areas;
         firm = h.firm;
-        backed = entered-backed v.table i (mark_for dirty) a D (shown m) l h.backed data-here;
+        backed = entered_backed v.table i (mark_for dirty) a D (shown m) l h.backed data-here;
         blanks = h.blanks;
       }
 
-  pub put-holding : (sp : Space) (t : Table) → Holding D m v sp t → Holding D m (with_put dirty i a v) sp t
-  put-holding sp t h = record {
-    keeps = record { ready = put-ready t h.keeps.ready; fits = h.keeps.fits };
-    onward = λ b k. entered-onward v.table i (mark_for dirty) a (subst (λ n. i < n) (sym h.keeps.ready.long) inside) unmarked (marks dirty) b (h.onward b k);
+  pub put_holding : (sp : Space) (t : Table) → Holding D m v sp t → Holding D m (with_put dirty i a v) sp t
+  put_holding sp t h = record {
+    keeps = record { ready = put_ready t h.keeps.ready; fits = h.keeps.fits };
+    onward = λ b k. entered_onward v.table i (mark_for dirty) a (subst (λ n. i < n) (sym h.keeps.ready.long) inside) unmarked (marks dirty) b (h.onward b k);
   }
 
   -- a put that is not committed
-  pub enters-later : (sp : Space) → dirty ≡ false → held v.table a ≡ false → Enters D dirty i a m v sp (Ok tt) m (with_put dirty i a v)
-  enters-later sp clean new =
+  pub enters_later : (sp : Space) → dirty ≡ false → held v.table a ≡ false → Enters D dirty i a m v sp (Ok tt) m (with_put dirty i a v)
+  enters_later sp clean new =
       let free : must_commit dirty a (world m v sp) ≡ false = cond-false dirty true (held v.table a) clean ∙ new in (
         refl,
         (
           sym (cond-false (must_commit dirty a (world m v sp)) (committing D (putting dirty i a (world m v sp))) (putting dirty i a (world m v sp)) free),
           λ must. absurd (both_ways (must_commit dirty a (world m v sp)) free must),
         ),
-        λ t h. (t, put-holding sp t h, inr (⊎_elim (λ y. absurd (both_ways (held v.table a) new (h.onward a y))) (λ n. n) (cases_Bool (held t a)), refl)),
+        λ t h. (t, put_holding sp t h, inr (⊎_elim (λ y. absurd (both_ways (held v.table a) new (h.onward a y))) (λ n. n) (cases_Bool (held t a)), refl)),
       )
 
   -- one that is
-  pub enters-now : (sp : Space) (r : Result (Unit {0}) Fault) (m' : Pages) (v' : Noted) → must_commit dirty a (world m v sp) ≡ true → Commits D m (with_put dirty i a v) r m' v'
+  pub enters_now : (sp : Space) (r : Result (Unit {0}) Fault) (m' : Pages) (v' : Noted) → must_commit dirty a (world m v sp) ≡ true → Commits D m (with_put dirty i a v) r m' v'
       → Enters D dirty i a m v sp r m' v'
-  enters-now sp (Ok tt) m' v' must done =
+  enters_now sp (Ok tt) m' v' must done =
       let w = with_put dirty i a v in (
         done.0.size,
         (
-          commit-world D m w sp m' v' done ∙ sym (cond-true (must_commit dirty a (world m v sp)) (committing D (putting dirty i a (world m v sp))) (putting dirty i a (world m v sp)) must),
+          commit_world D m w sp m' v' done ∙ sym (cond-true (must_commit dirty a (world m v sp)) (committing D (putting dirty i a (world m v sp))) (putting dirty i a (world m v sp)) must),
           λ _. lands_settled m m' (committed_pages D w (shown m)) done.0,
         ),
-        λ t h. (w.table, commit-holding D m w sp m' v' done t (put-holding sp t h), inl (sym (commit-table D m w sp m' v' done))),
+        λ t h. (w.table, commit_holding D m w sp m' v' done t (put_holding sp t h), inl (sym (commit_table D m w sp m' v' done))),
       )
-  enters-now sp (Err f) m' v' must done = (done.0, λ t h. done.1 t (put-ready t h.keeps.ready))
+  enters_now sp (Err f) m' v' must done = (done.0, λ t h. done.1 t (put_ready t h.keeps.ready))

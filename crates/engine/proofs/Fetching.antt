@@ -21,18 +21,18 @@ use Rattle.journal.specs.Ready.{Ready}
 use Rattle.journal.specs.Steps.{Fails}
 use Rattle.engine.specs.Works.{Holding, Fetches}
 use Rattle.journal.proofs.Leaving.{left_of_holds}
-use Rattle.engine.proofs.Quietly.{quiet-cell, quiet-leaves}
+use Rattle.engine.proofs.Quietly.{quiet_cell, quiet_leaves}
 use Rattle.journal.proofs.Settledness.{call_lost}
 
 -- whatever a read answers, the chip was only looked at
 read_quiet : (m n : Pages) (p : ℕ) (buf after : List ℕ) (r : Result Note Fault) → Reads m p buf r after n → Quiet m n
 read_quiet m n p buf after (Ok note) (_, _, k) = record { size = k.size; cells = k.cells }
 read_quiet m n p buf after (Err f) (_, inl (_, e)) = quiet_none m n e
-read_quiet m n p buf after (Err f) (_, inr (_, _, k)) = record { size = k.size; cells = λ q. as-was (k.cells q) }
+read_quiet m n p buf after (Err f) (_, inr (_, _, k)) = record { size = k.size; cells = λ q. as_was (k.cells q) }
   where
-    as-was : {q : ℕ} → Halted m m.cell q (n.cell q) → Early (m.cell q) (n.cell q)
-    as-was (inl e) = inl e
-    as-was (inr e) = inl e
+    as_was : {q : ℕ} → Halted m m.cell q (n.cell q) → Early (m.cell q) (n.cell q)
+    as_was (inl e) = inl e
+    as_was (inr e) = inl e
 
 read_lost : (m n : Pages) (p : ℕ) (buf after : List ℕ) (f : Fault) (note : Note) (bytes : List ℕ) → m.on ≡ true → length buf ≡ 512 → p < 8 * m.size → shown m p ≡ held note bytes
     → Reads m p buf (Err f) after n → Fails m f n
@@ -45,23 +45,23 @@ read_lost m n p buf after f note bytes on whole inside is call =
 -- i is the data page that holds the address a.
 module _ (D a i : ℕ) (m : Pages) (v : Noted) (only : AloneAt v.table a i) where
   -- it is there, and held as a data page of the address
-  page-inside : (t : Table) → Ready D m v t → data_page_at i < 8 * m.size
-  page-inside t h = omega (arith, only.inside, h.long, h.large, h.enough)
+  page_inside : (t : Table) → Ready D m v t → data_page_at i < 8 * m.size
+  page_inside t h = omega (arith, only.inside, h.long, h.large, h.enough)
 
-  page-held : (t : Table) → Ready D m v t → (bytes : List ℕ) × (shown m (data_page_at i) ≡ held (data_note a) bytes)
-  page-held t h =
+  page_held : (t : Table) → Ready D m v t → (bytes : List ℕ) × (shown m (data_page_at i) ≡ held (data_note a) bytes)
+  page_held t h =
       let parts = holds_parts a (entry_at v.table i) only.here in
       let (bytes, e) = h.backed i (omega (arith, only.inside, h.long)) parts.0 in
       (bytes, e ∙ ap (λ k. held (data_note k) bytes) parts.1)
 
   module _ (n : Pages) (sp : Space) (buf after : List ℕ) (p : ℕ) (at : p ≡ data_page_at i) (t₀ : Table) (h₀ : Holding D m v sp t₀) where
-    pub not-fetched : (f : Fault) → length buf ≡ 512 → Reads m p buf (Err f) after n → Fetches D a m v sp buf (Err f) after n
-    not-fetched f whole call =
+    pub not_fetched : (f : Fault) → length buf ≡ 512 → Reads m p buf (Err f) after n → Fetches D a m v sp buf (Err f) after n
+    not_fetched f whole call =
         let quiet = read_quiet m n p buf after (Err f) call in
         let ready = h₀.keeps.ready in
-        let (bytes, e) = page-held t₀ ready in
-        let inside : p < 8 * m.size = subst (λ q. q < 8 * m.size) (sym at) (page-inside t₀ ready) in (
+        let (bytes, e) = page_held t₀ ready in
+        let inside : p < 8 * m.size = subst (λ q. q < 8 * m.size) (sym at) (page_inside t₀ ready) in (
           call.0,
           read_lost m n p buf after f (data_note a) bytes ready.power whole inside (ap (shown m) at ∙ e) call,
-          λ t h. left_of_holds D n v.area v.number t (shown m) (λ s l. h.keeps.ready.holds s (quiet-leaves m n quiet s l)) (λ k l marked. quiet-cell m n quiet (data_page_at k) (h.keeps.ready.firm k l marked)),
+          λ t h. left_of_holds D n v.area v.number t (shown m) (λ s l. h.keeps.ready.holds s (quiet_leaves m n quiet s l)) (λ k l marked. quiet_cell m n quiet (data_page_at k) (h.keeps.ready.firm k l marked)),
         )

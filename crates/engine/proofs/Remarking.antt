@@ -15,7 +15,7 @@ use Rattle.recovery.specs.Looking.{shown}
 use Rattle.recovery.specs.Recovering.{IsData, Backed}
 use Rattle.table.specs.Tables.{Table, entry_at, held, holds, mark_of, without, cleaned, apply, replayed, ProperTable}
 use Rattle.table.specs.Views.{remarked}
-use Rattle.table.proofs.Changing.{remarked-at, remarked_holds, apply_keeps, replayed_append}
+use Rattle.table.proofs.Changing.{remarked_at, remarked_holds, apply_keeps, replayed_append}
 use Rattle.table.proofs.Elsewhere.{held_cleaned}
 use Rattle.table.proofs.Tablewise.{holds_parts, holds_from, held_page, mark_unheld, entry_proper, held_fits}
 use Rattle.space.specs.declared.blanks.Space.{Space}
@@ -26,7 +26,7 @@ use Rattle.journal.specs.Ready.{Ready}
 use Rattle.journal.specs.Steps.{Commits}
 use Rattle.engine.specs.Works.{Holding, MakesRoomy, Evicts, Cleans}
 use Rattle.space.specs.Worlds.{World, world, committing}
-use Rattle.engine.proofs.Flushing.{commit-apart, commit-table, commit-empties, commit-world, commit-fits}
+use Rattle.engine.proofs.Flushing.{commit_apart, commit_table, commit_empties, commit_world, commit_fits}
 use Rattle.journal.proofs.Leaving.{left_more}
 use Rattle.journal.proofs.Settledness.{lands_settled}
 use Rattle.journal.proofs.Turning.{SamePoint, left_turn}
@@ -62,7 +62,7 @@ pub remarked_backed : (s : ℕ → State) (D : ℕ) (t : Table) (mark : Mark) (a
 remarked_backed s D t mark a h i l marked =
     let b = (entry_at (remarked t mark a) i).address.0 in
     let there : holds b (entry_at (remarked t mark a) i) ≡ true = holds_from b (entry_at (remarked t mark a) i) marked refl in
-    let before = holds_parts b (entry_at t i) (remarked_holds mark a b (entry_at t i) (ap (holds b) (sym (remarked-at t mark a i)) ∙ there)) in
+    let before = holds_parts b (entry_at t i) (remarked_holds mark a b (entry_at t i) (ap (holds b) (sym (remarked_at t mark a i)) ∙ there)) in
     subst (IsData (s (data_page_at i))) before.1 (h i l before.0)
 
 pub held_small : (t : Table) (a : ℕ) → ProperTable t → held t a ≡ true → a < 4294967296
@@ -83,16 +83,16 @@ clean_made t a h = cond-true (held t a.0) (Some (cleaned t a.0)) None h
 -- Once there is room for a record.
 
 roomy_table : (D : ℕ) (w : World) → (roomy D w).noted.table ≡ w.noted.table
-roomy_table D w = cond_both (eqb (length w.noted.staged) 64) (committing D w) w (λ u. u.noted.table ≡ w.noted.table) (λ _. commit-table D w.noted) (λ _. refl)
+roomy_table D w = cond_both (eqb (length w.noted.staged) 64) (committing D w) w (λ u. u.noted.table ≡ w.noted.table) (λ _. commit_table D w.noted) (λ _. refl)
 
 roomy_apart : (D : ℕ) (w : World) (i : ℕ) → (roomy D w).pages (data_page_at i) ≡ w.pages (data_page_at i)
 roomy_apart D w i =
-    cond_both (eqb (length w.noted.staged) 64) (committing D w) w (λ u. u.pages (data_page_at i) ≡ w.pages (data_page_at i)) (λ _. commit-apart D w.noted w.pages i) (λ _. refl)
+    cond_both (eqb (length w.noted.staged) 64) (committing D w) w (λ u. u.pages (data_page_at i) ≡ w.pages (data_page_at i)) (λ _. commit_apart D w.noted w.pages i) (λ _. refl)
 
 roomy_room : (D : ℕ) (w : World) → length w.noted.staged ≤ 64 → length (roomy D w).noted.staged < 64
 roomy_room D w few =
     cond_both (eqb (length w.noted.staged) 64) (committing D w) w (λ u. length u.noted.staged < 64)
-    (λ e. omega (arith, commit-empties D w.noted (omega (arith, eqb-true (length w.noted.staged) 64 e))))
+    (λ e. omega (arith, commit_empties D w.noted (omega (arith, eqb-true (length w.noted.staged) 64 e))))
     (λ e. omega (arith, eqb-false (length w.noted.staged) 64 e))
 
 -- m and v are the chip and the journal at first, m₁ and v₁ where there is room.
@@ -100,21 +100,21 @@ module _ (D : ℕ) (m : Pages) (v : Noted) (sp : Space) (m₁ : Pages) (v₁ : N
   pub same_table : v₁.table ≡ v.table
   same_table = ap (λ w. w.noted.table) made.1 ∙ roomy_table D (world m v sp)
 
-  same-data : (i : ℕ) → shown m₁ (data_page_at i) ≡ shown m (data_page_at i)
-  same-data i = ap (λ w. w.pages (data_page_at i)) made.1 ∙ roomy_apart D (world m v sp) i
+  same_data : (i : ℕ) → shown m₁ (data_page_at i) ≡ shown m (data_page_at i)
+  same_data i = ap (λ w. w.pages (data_page_at i)) made.1 ∙ roomy_apart D (world m v sp) i
 
-  pub room-made : (t : Table) → Holding D m v sp t → length v₁.staged < 64
-  room-made t h = subst (λ w. length w.noted.staged < 64) (sym made.1) (roomy_room D (world m v sp) h.keeps.ready.room)
+  pub room_made : (t : Table) → Holding D m v sp t → length v₁.staged < 64
+  room_made t h = subst (λ w. length w.noted.staged < 64) (sym made.1) (roomy_room D (world m v sp) h.keeps.ready.room)
 
-  pub still-held : (a : ℕ) → held v.table a ≡ true → held v₁.table a ≡ true
-  still-held a h = ap (λ t. held t a) same_table ∙ h
+  pub still_held : (a : ℕ) → held v.table a ≡ true → held v₁.table a ≡ true
+  still_held a h = ap (λ t. held t a) same_table ∙ h
 
   module _ (a : DiskAddress) (there : held v.table a.0 ≡ true) where
     -- a record that gives the address another mark, or none
-    remarked-ready : (mark : Mark) (r : Record) → apply v₁.table r ≡ Some (remarked v₁.table mark a.0) → ((a.0 < 4294967296) → ProperRecord r)
+    remarked_ready : (mark : Mark) (r : Record) → apply v₁.table r ≡ Some (remarked v₁.table mark a.0) → ((a.0 < 4294967296) → ProperRecord r)
         → (t u : Table) → Holding D m v sp t → Ready D m₁ v₁ u → Ready D m₁ (staging v₁ (remarked v₁.table mark a.0) r) u
-    remarked-ready mark r makes proper t u h ready =
-        record_ready D m₁ v₁ u (remarked v₁.table mark a.0) r (room-made t h) makes (proper (held_small v₁.table a.0 ready.proper (still-held a.0 there)))
+    remarked_ready mark r makes proper t u h ready =
+        record_ready D m₁ v₁ u (remarked v₁.table mark a.0) r (room_made t h) makes (proper (held_small v₁.table a.0 ready.proper (still_held a.0 there)))
         (remarked_backed (shown m₁) D v₁.table mark a.0 ready.backed) ready
 
     -- Cleaning.
@@ -125,7 +125,7 @@ module _ (D : ℕ) (m : Pages) (v : Noted) (sp : Space) (m₁ : Pages) (v₁ : N
       λ t h. let (u, k, among) = made.2 t h in (
         u,
         record {
-          keeps = record { ready = remarked-ready Clean (MarkClean a) (clean_made v₁.table a (still-held a.0 there)) (λ l. l) t u h k.keeps.ready; fits = k.keeps.fits };
+          keeps = record { ready = remarked_ready Clean (MarkClean a) (clean_made v₁.table a (still_held a.0 there)) (λ l. l) t u h k.keeps.ready; fits = k.keeps.fits };
           onward = λ b x. held_cleaned v₁.table a.0 b ∙ k.onward b x;
         },
         among,
@@ -133,42 +133,42 @@ module _ (D : ℕ) (m : Pages) (v : Noted) (sp : Space) (m₁ : Pages) (v₁ : N
     )
 
     -- Evicting.
-    abbrev pub staged-drop : Noted
-    staged-drop = staging v₁ (without v₁.table a.0) (Drop a)
+    abbrev pub staged_drop : Noted
+    staged_drop = staging v₁ (without v₁.table a.0) (Drop a)
 
-    pub drop-ready : (t u : Table) → Holding D m v sp t → Holding D m₁ v₁ sp u → Ready D m₁ staged-drop u
-    drop-ready t u h k = remarked-ready Empty (Drop a) (drop_made v₁.table a (still-held a.0 there)) (λ l. l) t u h k.keeps.ready
+    pub drop_ready : (t u : Table) → Holding D m v sp t → Holding D m₁ v₁ sp u → Ready D m₁ staged_drop u
+    drop_ready t u h k = remarked_ready Empty (Drop a) (drop_made v₁.table a (still_held a.0 there)) (λ l. l) t u h k.keeps.ready
 
-    pub drop-owed : (D' : ℕ) (v₂ : Noted) → D' ≡ D → v₂ ≡ staged-drop → (t : Table) → Holding D m v sp t → (u : Table) × Ready D' m₁ v₂ u
-    drop-owed D' v₂ large e t h = let (u, k, _) = made.2 t h in (u, subst₂ (λ d w. Ready d m₁ w u) (sym large) (sym e) (drop-ready t u h k))
+    pub drop_owed : (D' : ℕ) (v₂ : Noted) → D' ≡ D → v₂ ≡ staged_drop → (t : Table) → Holding D m v sp t → (u : Table) × Ready D' m₁ v₂ u
+    drop_owed D' v₂ large e t h = let (u, k, _) = made.2 t h in (u, subst₂ (λ d w. Ready d m₁ w u) (sym large) (sym e) (drop_ready t u h k))
 
     -- the points of the commit are points of the eviction
-    abbrev Evict-points : Table → Point → Type 0
-    Evict-points t x = (x ≡ point t (shown m)) ⊎ ((x ≡ point v.table (shown m)) ⊎ (x ≡ point (without v.table a.0) (shown m)))
+    abbrev EvictPoints : Table → Point → Type 0
+    EvictPoints t x = (x ≡ point t (shown m)) ⊎ ((x ≡ point v.table (shown m)) ⊎ (x ≡ point (without v.table a.0) (shown m)))
 
-    point-same : (x : Point) (u t : Table) → x ≡ point u (shown m₁) → u ≡ t → SamePoint D x (point t (shown m))
-    point-same x u t e same = record {
+    point_same : (x : Point) (u t : Table) → x ≡ point u (shown m₁) → u ≡ t → SamePoint D x (point t (shown m))
+    point_same x u t e same = record {
       table = sym (ap (λ z. z.table) e ∙ same);
-      pages = λ i l marked. ap (λ z. z.pages (data_page_at i)) e ∙ same-data i;
+      pages = λ i l marked. ap (λ z. z.pages (data_page_at i)) e ∙ same_data i;
     }
 
     turned : (t u : Table) → (u ≡ t) ⊎ (u ≡ v.table) → (x : Point) → Either (point u (shown m₁)) (point (without v₁.table a.0) (shown m₁)) x
-        → (y : Point) × Evict-points t y × SamePoint D x y
-    turned t u (inl same) x (inl e) = (point t (shown m), inl refl, point-same x u t e same)
-    turned t u (inr same) x (inl e) = (point v.table (shown m), inr (inl refl), point-same x u v.table e same)
+        → (y : Point) × EvictPoints t y × SamePoint D x y
+    turned t u (inl same) x (inl e) = (point t (shown m), inl refl, point_same x u t e same)
+    turned t u (inr same) x (inl e) = (point v.table (shown m), inr (inl refl), point_same x u v.table e same)
     turned t u among x (inr e) =
-        (point (without v.table a.0) (shown m), inr (inr refl), point-same x (without v₁.table a.0) (without v.table a.0) e (ap (λ z. without z a.0) same_table))
+        (point (without v.table a.0) (shown m), inr (inr refl), point_same x (without v₁.table a.0) (without v.table a.0) e (ap (λ z. without z a.0) same_table))
 
-    evicts : (r : Result (Unit {0}) Fault) (m₂ : Pages) (v₃ : Noted) → Commits D m₁ staged-drop r m₂ v₃ → Evicts D a.0 m v sp r m₂ v₃
+    evicts : (r : Result (Unit {0}) Fault) (m₂ : Pages) (v₃ : Noted) → Commits D m₁ staged_drop r m₂ v₃ → Evicts D a.0 m v sp r m₂ v₃
     evicts (Ok x) m₂ v₃ (lands, e, ready) = (
       lands.size ∙ made.0,
-      (commit-world D m₁ staged-drop m₂ v₃ sp lands e ∙ ap (λ w. committing D (evicting a.0 w)) made.1, lands_settled m₁ m₂ _ lands),
+      (commit_world D m₁ staged_drop m₂ v₃ sp lands e ∙ ap (λ w. committing D (evicting a.0 w)) made.1, lands_settled m₁ m₂ _ lands),
       λ t h.
           let (u, k, _) = made.2 t h in
-          let same : without v₁.table a.0 ≡ v₃.table = sym (ap (λ w. w.table) e ∙ commit-table D staged-drop) in (
+          let same : without v₁.table a.0 ≡ v₃.table = sym (ap (λ w. w.table) e ∙ commit_table D staged_drop) in (
             v₃.table,
             record {
-              keeps = record { ready = subst (Ready D m₂ v₃) same (ready u (drop-ready t u h k)); fits = commit-fits D m₁ staged-drop m₂ v₃ sp lands k.keeps.fits };
+              keeps = record { ready = subst (Ready D m₂ v₃) same (ready u (drop_ready t u h k)); fits = commit_fits D m₁ staged_drop m₂ v₃ sp lands k.keeps.fits };
               onward = λ b y. y;
             },
             refl,
@@ -176,11 +176,11 @@ module _ (D : ℕ) (m : Pages) (v : Noted) (sp : Space) (m₁ : Pages) (v₁ : N
     )
     evicts (Err f) m₂ v₃ (fails, left) = (
       record { lost = fails.lost; size = fails.size ∙ made.0 },
-      λ t h. let (u, k, among) = made.2 t h in left_turn D m₂ _ (Evict-points t) (turned t u among) (left u (drop-ready t u h k)),
+      λ t h. let (u, k, among) = made.2 t h in left_turn D m₂ _ (EvictPoints t) (turned t u among) (left u (drop_ready t u h k)),
     )
 
-    pub evicts-by : (D' : ℕ) (v₂ : Noted) (r : Result (Unit {0}) Fault) (m₂ : Pages) (v₃ : Noted) → D' ≡ D → v₂ ≡ staged-drop → Commits D' m₁ v₂ r m₂ v₃ → Evicts D a.0 m v sp r m₂ v₃
-    evicts-by D' v₂ r m₂ v₃ large e h = evicts r m₂ v₃ (subst₂ (λ d w. Commits d m₁ w r m₂ v₃) large e h)
+    pub evicts_by : (D' : ℕ) (v₂ : Noted) (r : Result (Unit {0}) Fault) (m₂ : Pages) (v₃ : Noted) → D' ≡ D → v₂ ≡ staged_drop → Commits D' m₁ v₂ r m₂ v₃ → Evicts D a.0 m v sp r m₂ v₃
+    evicts_by D' v₂ r m₂ v₃ large e h = evicts r m₂ v₃ (subst₂ (λ d w. Commits d m₁ w r m₂ v₃) large e h)
 
 pub not_evicted : (D a : ℕ) (m : Pages) (v : Noted) (sp : Space) (f : Fault) (m₁ : Pages) (v₁ : Noted) → MakesRoomy D m v sp (Err f) m₁ v₁ → Evicts D a m v sp (Err f) m₁ v₁
 not_evicted D a m v sp f m₁ v₁ (fails, left) = (fails, λ t h. left_more D m₁ (Either (point t (shown m)) (point v.table (shown m))) _ (more t) (left t h))

@@ -57,22 +57,22 @@ committed_away D v pages i =
 -- What a commit that is served leaves.
 
 module _ (D : ℕ) (m : Pages) (v : Noted) (sp : Space) (m' : Pages) (v' : Noted) (done : Commits D m v (Ok tt) m' v') where
-  pub commit-world : world m' v' sp ≡ committing D (world m v sp)
-  commit-world = let p = lands_shown m m' (committed_pages D v (shown m)) done.0 in λ i. record { pages = p i; noted = done.1 i; cursor = sp.cursor.0 }
+  pub commit_world : world m' v' sp ≡ committing D (world m v sp)
+  commit_world = let p = lands_shown m m' (committed_pages D v (shown m)) done.0 in λ i. record { pages = p i; noted = done.1 i; cursor = sp.cursor.0 }
 
-  pub commit-table : v'.table ≡ v.table
-  commit-table = ap (λ u. u.table) done.1 ∙ committed_table D v
+  pub commit_table : v'.table ≡ v.table
+  commit_table = ap (λ u. u.table) done.1 ∙ committed_table D v
 
-  commit-fits : Fits D m sp → Fits D m' sp
-  commit-fits h = record {
+  commit_fits : Fits D m sp → Fits D m' sp
+  commit_fits h = record {
     long = h.long;
     each = λ i l. h.each i l ∙ sym (ap is_blank (ap (λ s. s (data_page_at i)) (lands_shown m m' (committed_pages D v (shown m)) done.0) ∙ committed_away D v (shown m) i));
   }
 
-  pub commit-holding : (t : Table) → Holding D m v sp t → Holding D m' v' sp v.table
-  commit-holding t h = record {
-    keeps = record { ready = done.2 t h.keeps.ready; fits = commit-fits h.keeps.fits };
-    onward = subst (Onward v.table) (sym commit-table) (λ a e. e);
+  pub commit_holding : (t : Table) → Holding D m v sp t → Holding D m' v' sp v.table
+  commit_holding t h = record {
+    keeps = record { ready = done.2 t h.keeps.ready; fits = commit_fits h.keeps.fits };
+    onward = subst (Onward v.table) (sym commit_table) (λ a e. e);
   }
 
 -- Room for one more record.
@@ -81,8 +81,8 @@ pub roomy_commits : (D : ℕ) (m : Pages) (v : Noted) (sp : Space) (r : Result (
     → Commits D m v r m' v' → MakesRoomy D m v sp r m' v'
 roomy_commits D m v sp (Ok tt) m' v' full h = (
   h.0.size,
-  commit-world D m v sp m' v' h ∙ sym (cond-true (eqb (length v.staged) 64) (committing D (world m v sp)) (world m v sp) full),
-  λ t k. (v.table, commit-holding D m v sp m' v' h t k, inr refl),
+  commit_world D m v sp m' v' h ∙ sym (cond-true (eqb (length v.staged) 64) (committing D (world m v sp)) (world m v sp) full),
+  λ t k. (v.table, commit_holding D m v sp m' v' h t k, inr refl),
 )
 roomy_commits D m v sp (Err f) m' v' full h = (h.0, λ t k. h.1 t k.keeps.ready)
 
@@ -96,8 +96,8 @@ module _ (D : ℕ) (w : World) where
   pub roomy_table : (roomy D w).noted.table ≡ w.noted.table
   roomy_table = cond_both (eqb (length w.noted.staged) 64) (committing D w) w (λ u. u.noted.table ≡ w.noted.table) (λ _. committed_table D w.noted) (λ _. refl)
 
-  pub roomy-away : (j : ℕ) → (roomy D w).pages (data_page_at j) ≡ w.pages (data_page_at j)
-  roomy-away j = cond_both (eqb (length w.noted.staged) 64) (committing D w) w (λ u. u.pages (data_page_at j) ≡ w.pages (data_page_at j))
+  pub roomy_away : (j : ℕ) → (roomy D w).pages (data_page_at j) ≡ w.pages (data_page_at j)
+  roomy_away j = cond_both (eqb (length w.noted.staged) 64) (committing D w) w (λ u. u.pages (data_page_at j) ≡ w.pages (data_page_at j))
       (λ _. committed_away D w.noted w.pages j) (λ _. refl)
 
   pub roomy_room : length w.noted.staged ≤ 64 → length (roomy D w).noted.staged < 64

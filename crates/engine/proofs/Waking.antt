@@ -28,7 +28,7 @@ use Rattle.journal.specs.Steps.{AllSettled}
 use Rattle.engine.specs.Works.{Holding, CutTo, recovered_as, Woken, StaysDark}
 use Rattle.space.specs.Worlds.{Fits}
 use Rattle.journal.proofs.Settledness.{settled_reads, settled_as}
-use Rattle.engine.proofs.Quietly.{quiet_same, quiet-fits}
+use Rattle.engine.proofs.Quietly.{quiet_same, quiet_fits}
 
 pub cut_settled : (m m' : Pages) → CutTo m m' → AllSettled m'
 cut_settled m m' h p = ap is_unsettled (h p).1
@@ -91,21 +91,21 @@ module _ (m m₁ n : Pages) (on : Powers m (Ok tt) m₁) (quiet : Quiet m₁ n) 
   same : n.cell ≡ m₁.cell
   same = quiet_same m₁ n quiet (cut_settled m m₁ on.2.cells)
 
-  pub looked-cut : CutTo m n
-  looked-cut p = subst (λ c. Cut Tears (m.cell p) (c p)) (sym same) (on.2.cells p)
+  pub looked_cut : CutTo m n
+  looked_cut p = subst (λ c. Cut Tears (m.cell p) (c p)) (sym same) (on.2.cells p)
 
-  pub looked-size : n.size ≡ m.size
-  looked-size = quiet.size ∙ on.2.size
+  pub looked_size : n.size ≡ m.size
+  looked_size = quiet.size ∙ on.2.size
 
-  pub looked-lost : (D : ℕ) (f : Fault) → Lost f n → StaysDark D m f n
-  looked-lost D f lost = (looked-size, inl (lost, λ s l. chip_cuts.at_power_on m m₁ (Ok tt) s on (subst (λ c. Leaves Tears c s) same l)))
+  pub looked_lost : (D : ℕ) (f : Fault) → Lost f n → StaysDark D m f n
+  looked_lost D f lost = (looked_size, inl (lost, λ s l. chip_cuts.at_power_on m m₁ (Ok tt) s on (subst (λ c. Leaves Tears c s) same l)))
 
-  pub recovery-dark : (blocks : ℕ) (f : Fault) → m.size ≡ blocks → 12 ≤ blocks → blocks ≤ 64 → Restores m₁ (Err f) n → StaysDark (data_pages blocks) m f n
-  recovery-dark blocks f fits enough few (inl (e, _)) =
+  pub recovery_dark : (blocks : ℕ) (f : Fault) → m.size ≡ blocks → 12 ≤ blocks → blocks ≤ 64 → Restores m₁ (Err f) n → StaysDark (data_pages blocks) m f n
+  recovery_dark blocks f fits enough few (inl (e, _)) =
       let z : None ≡ Some f = sym (served_size blocks enough few) ∙ ap geometry_refusal (sym (on.2.size ∙ fits)) ∙ e in grind arith
-  recovery-dark blocks f fits enough few (inr (_, inl lost)) = looked-lost (data_pages blocks) f lost
-  recovery-dark blocks f fits enough few (inr (_, inr (power, failed))) =
-      (looked-size, inr (power, looked-cut, subst (λ s. Failed (data_pages blocks) s f) (sym (moved m₁ n quiet)) (subst (λ b. Failed (data_pages b) (shown m₁) f) (on.2.size ∙ fits) failed)))
+  recovery_dark blocks f fits enough few (inr (_, inl lost)) = looked_lost (data_pages blocks) f lost
+  recovery_dark blocks f fits enough few (inr (_, inr (power, failed))) =
+      (looked_size, inr (power, looked_cut, subst (λ s. Failed (data_pages blocks) s f) (sym (moved m₁ n quiet)) (subst (λ b. Failed (data_pages b) (shown m₁) f) (on.2.size ∙ fits) failed)))
 
 -- the journal and the space that are made of what recovery and a scan find
 module _ (blocks : ℕ) (m m₁ m₂ m₃ : Pages) (fits : m.size ≡ blocks) (enough : 12 ≤ blocks) (few : blocks ≤ 64) (on : Powers m (Ok tt) m₁) (first : Quiet m₁ m₂) (second : Quiet m₂ m₃) where
@@ -119,18 +119,18 @@ module _ (blocks : ℕ) (m m₁ m₂ m₃ : Pages) (fits : m.size ≡ blocks) (e
       let f = found_of r in
       let shown-same : shown m₁ ≡ shown m₃ = sym (moved m₁ m₃ quiet) in
       let there : Recovered D (shown m₃) f = subst (λ s. Recovered D s f) shown-same (subst (λ b. Recovered (data_pages b) (shown m₁) f) (on.2.size ∙ fits) found) in
-      let large : m₃.size ≡ blocks = looked-size m m₁ m₃ on quiet ∙ fits in
+      let large : m₃.size ≡ blocks = looked_size m m₁ m₃ on quiet ∙ fits in
       let ready : Ready D m₃ (recovered_as f) f.table =
-      ready_found D m₃ f power (omega (arith, enough)) (omega (arith, few)) (ap data_pages (sym large)) (cut_settled m m₃ (looked-cut m m₁ m₃ on quiet)) there (table_proper r.table) in
+      ready_found D m₃ f power (omega (arith, enough)) (omega (arith, few)) (ap data_pages (sym large)) (cut_settled m m₃ (looked_cut m m₁ m₃ on quiet)) there (table_proper r.table) in
       record {
-        size = looked-size m m₁ m₃ on quiet;
-        cut = looked-cut m m₁ m₃ on quiet;
+        size = looked_size m m₁ m₃ on quiet;
+        cut = looked_cut m m₁ m₃ on quiet;
         found = f;
         recovered = there;
         as_found = is;
         start = start;
         holding = subst (λ v. Holding D m₃ v sp v.table) (sym is) (record {
-          keeps = record { ready = ready; fits = quiet-fits m₂ m₃ second D sp agrees };
+          keeps = record { ready = ready; fits = quiet_fits m₂ m₃ second D sp agrees };
           onward = λ a h. h;
         });
       }

@@ -15,11 +15,11 @@ use Rattle.journal.specs.Notes.{pages_of}
 use Rattle.journal.specs.Points.{Point, point, Left}
 use Rattle.engine.specs.Works.{Holding}
 use Rattle.cache.specs.Refusals.{off_by}
-use Rattle.cache.specs.Caches.{chip-of, view_of}
+use Rattle.cache.specs.Caches.{chip_of, view_of}
 use Rattle.history.specs.Histories.{History, Phase, Moves, Says, step}
 use Rattle.history.specs.Histories.Phase.{on, off}
 use Rattle.history.specs.Following.{Agrees, Follows, Follows_on, Follows-off}
-use Rattle.history.proofs.Phasing.{moves-refused, moves-dark, stays_dark, lost_number, lost_off, same_size}
+use Rattle.history.proofs.Phasing.{moves_refused, moves_dark, stays_dark, lost_number, lost_off, same_size}
 
 -- no refusal has the number of a served call
 pub never_zero : (r : Refusal) → eqb (refusal_number r) 0 ≡ false
@@ -55,32 +55,32 @@ module _ {C : Type 0} (meaning : C → Pages) where
   -- one that is refused while on does not
   pub refused : (h : History) (call : Call) (f : Fault) (d : Cache C) → eqb (refusal_number f.refusal) 1 ≡ false → Says h call (Refused f) → Follows_on meaning h d
       → Next (on h) call (Refused f) d
-  refused h call f d bright says k = (on h, moves-refused h call (Refused f) bright (never_zero f.refusal) says, k)
+  refused h call f d bright says k = (on h, moves_refused h call (Refused f) bright (never_zero f.refusal) says, k)
 
   pub darkened : (h : History) (call : Call) (f : Fault) (d : Cache C) → refusal_number f.refusal ≡ 1 → Follows-off meaning h (step h call) d → Next (on h) call (Refused f) d
-  darkened h call f d e k = (off h (step h call), moves-dark h call (Refused f) e, k)
+  darkened h call f d e k = (off h (step h call), moves_dark h call (Refused f) e, k)
 
-  pub still-dark : (h h' : History) (call : Call) (f : Fault) (d : Cache C) → refusal_number f.refusal ≡ 1 → Follows-off meaning h h' d → Next (off h h') call (Refused f) d
-  still-dark h h' call f d e k = (off h h', stays_dark h h' call (Refused f) e, k)
+  pub still_dark : (h h' : History) (call : Call) (f : Fault) (d : Cache C) → refusal_number f.refusal ≡ 1 → Follows-off meaning h h' d → Next (off h h') call (Refused f) d
+  still_dark h h' call f d e k = (off h h', stays_dark h h' call (Refused f) e, k)
 
   -- power failed in the call: it counts wholly or not at all
-  pub failed : (h : History) (call : Call) (f : Fault) (c d : Cache C) → d.journal.geometry ≡ c.journal.geometry → Lost f (chip-of meaning d) → d.off ≡ off_by f
-      → Left (pages_of c.journal) (chip-of meaning d) (AgreesOne h (step h call)) → Next (on h) call (Refused f) d
-  failed h call f c d size lost dark left = darkened h call f d (lost_number f (chip-of meaning d) lost) (record {
+  pub failed : (h : History) (call : Call) (f : Fault) (c d : Cache C) → d.journal.geometry ≡ c.journal.geometry → Lost f (chip_of meaning d) → d.off ≡ off_by f
+      → Left (pages_of c.journal) (chip_of meaning d) (AgreesOne h (step h call)) → Next (on h) call (Refused f) d
+  failed h call f c d size lost dark left = darkened h call f d (lost_number f (chip_of meaning d) lost) (record {
     fault = f;
-    power = dark ∙ lost_off f (chip-of meaning d) lost;
-    number = lost_number f (chip-of meaning d) lost;
-    left = subst (λ n. Left n (chip-of meaning d) (AgreesOne h (step h call))) (sym (same_size meaning c d size)) left;
+    power = dark ∙ lost_off f (chip_of meaning d) lost;
+    number = lost_number f (chip_of meaning d) lost;
+    left = subst (λ n. Left n (chip_of meaning d) (AgreesOne h (step h call))) (sym (same_size meaning c d size)) left;
   })
 
   -- served, the cache follows by the table in memory and the committed one
   pub follows_on : (h : History) (c d : Cache C) → d.journal.geometry ≡ c.journal.geometry → d.off ≡ None → (u : Table)
-      → Holding (pages_of c.journal) (chip-of meaning d) (view_of meaning d) d.space u → Agrees h (view_of meaning d).table (shown (chip-of meaning d))
-      → Agrees h u (shown (chip-of meaning d)) → Follows_on meaning h d
+      → Holding (pages_of c.journal) (chip_of meaning d) (view_of meaning d) d.space u → Agrees h (view_of meaning d).table (shown (chip_of meaning d))
+      → Agrees h u (shown (chip_of meaning d)) → Follows_on meaning h d
   follows_on h c d size power u holding a b = record {
     power = power;
     table = a;
     committed = u;
-    holding = subst (λ n. Holding n (chip-of meaning d) (view_of meaning d) d.space u) (sym (same_size meaning c d size)) holding;
+    holding = subst (λ n. Holding n (chip_of meaning d) (view_of meaning d) d.space u) (sym (same_size meaning c d size)) holding;
     agrees = b;
   }

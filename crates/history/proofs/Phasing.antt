@@ -9,7 +9,7 @@ use Rattle.journal.specs.Notes.{pages_of}
 use Rattle.engine.specs.Works.{Holding}
 use Rattle.cache.specs.Refusals.{off_by}
 use Rattle.cache.specs.declared.working.Cache.{Cache}
-use Rattle.cache.specs.Caches.{chip-of, view_of}
+use Rattle.cache.specs.Caches.{chip_of, view_of}
 use Rattle.history.specs.declared.calls.Call.{Call}
 use Rattle.history.specs.declared.calls.Answer.{Answer}
 use Rattle.history.specs.Histories.{History, step, number_of, dark, served, Says, IsPowerOn, Moves}
@@ -19,16 +19,16 @@ use Rattle.history.specs.Following.{Agrees, Follows_on}
 -- By the number of the answer.
 
 module _ (h : History) (call : Call) (x : Answer) where
-  pub moves-served : number_of x ≡ 0 → Says h call x → Moves (on h) call x (on (step h call))
-  moves-served e says = subst (λ n. cond (eqb n 1) (on (step h call) ≡ off h (step h call)) (Says h call x × (on (step h call) ≡ on (cond (eqb n 0) (step h call) h)))) (sym e) (says, refl)
+  pub moves_served : number_of x ≡ 0 → Says h call x → Moves (on h) call x (on (step h call))
+  moves_served e says = subst (λ n. cond (eqb n 1) (on (step h call) ≡ off h (step h call)) (Says h call x × (on (step h call) ≡ on (cond (eqb n 0) (step h call) h)))) (sym e) (says, refl)
 
-  pub moves-refused : dark x ≡ false → served x ≡ false → Says h call x → Moves (on h) call x (on h)
-  moves-refused bright not says =
+  pub moves_refused : dark x ≡ false → served x ≡ false → Says h call x → Moves (on h) call x (on h)
+  moves_refused bright not says =
       subst (λ b. cond b (on h ≡ off h (step h call)) (Says h call x × (on h ≡ on (cond (served x) (step h call) h)))) (sym bright)
       (says, ap (λ b. on (cond b (step h call) h)) (sym not))
 
-  pub moves-dark : number_of x ≡ 1 → Moves (on h) call x (off h (step h call))
-  moves-dark e = subst (λ n. cond (eqb n 1) (off h (step h call) ≡ off h (step h call)) (Says h call x × (off h (step h call) ≡ on (cond (eqb n 0) (step h call) h)))) (sym e) refl
+  pub moves_dark : number_of x ≡ 1 → Moves (on h) call x (off h (step h call))
+  moves_dark e = subst (λ n. cond (eqb n 1) (off h (step h call) ≡ off h (step h call)) (Says h call x × (off h (step h call) ≡ on (cond (eqb n 0) (step h call) h)))) (sym e) refl
 
 pub stays_dark : (h h' : History) (call : Call) (x : Answer) → number_of x ≡ 1 → Moves (off h h') call x (off h h')
 stays_dark h h' call x e =
@@ -48,17 +48,17 @@ module _ {C : Type 0} (meaning : C → Pages) (c d : Cache C) (size : d.journal.
   pub same_size : pages_of d.journal ≡ pages_of c.journal
   same_size = ap (λ g. data_pages g.blocks) size
 
-  pub follows-again : (h : History) → d.off ≡ None → chip-of meaning d ≡ chip-of meaning c → view_of meaning d ≡ view_of meaning c → d.space ≡ c.space
+  pub follows_again : (h : History) → d.off ≡ None → chip_of meaning d ≡ chip_of meaning c → view_of meaning d ≡ view_of meaning c → d.space ≡ c.space
       → Follows_on meaning h c → Follows_on meaning h d
-  follows-again h power chip view space f = record {
+  follows_again h power chip view space f = record {
     power = power;
     table =
-        subst (λ v. Agrees h v.table (shown (chip-of meaning d))) (sym view) (subst (λ m. Agrees h (view_of meaning c).table (shown m)) (sym chip) f.table);
+        subst (λ v. Agrees h v.table (shown (chip_of meaning d))) (sym view) (subst (λ m. Agrees h (view_of meaning c).table (shown m)) (sym chip) f.table);
     committed = f.committed;
     holding =
-        subst (λ n. Holding n (chip-of meaning d) (view_of meaning d) d.space f.committed) (sym same_size)
+        subst (λ n. Holding n (chip_of meaning d) (view_of meaning d) d.space f.committed) (sym same_size)
         (subst (λ m. Holding (pages_of c.journal) m (view_of meaning d) d.space f.committed) (sym chip)
-        (subst (λ v. Holding (pages_of c.journal) (chip-of meaning c) v d.space f.committed) (sym view)
-        (subst (λ s. Holding (pages_of c.journal) (chip-of meaning c) (view_of meaning c) s f.committed) (sym space) f.holding)));
+        (subst (λ v. Holding (pages_of c.journal) (chip_of meaning c) v d.space f.committed) (sym view)
+        (subst (λ s. Holding (pages_of c.journal) (chip_of meaning c) (view_of meaning c) s f.committed) (sym space) f.holding)));
     agrees = subst (λ m. Agrees h f.committed (shown m)) (sym chip) f.agrees;
   }

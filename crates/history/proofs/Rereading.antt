@@ -22,11 +22,11 @@ use Rattle.journal.specs.Notes.{pages_of}
 use Rattle.journal.specs.Points.{point}
 use Rattle.engine.specs.Works.{Holding}
 use Rattle.cache.specs.Refusals.{read_refusal}
-use Rattle.cache.specs.Caches.{chip-of, view_of}
+use Rattle.cache.specs.Caches.{chip_of, view_of}
 use Rattle.history.specs.Histories.{Slot, History, ReadsBack}
 use Rattle.history.specs.Histories.Slot.{absent, cached, kept}
 use Rattle.history.specs.Histories.Phase.{on}
-use Rattle.history.specs.Serving.{Read-serves}
+use Rattle.history.specs.Serving.{ReadServes}
 use Rattle.history.specs.Following.{PageHas, SlotIs, Agrees, Follows_on}
 use Rattle.journal.proofs.Leaving.{left_more}
 use Rattle.history.proofs.Outcomes.{AgreesOne, agrees_at, Next, refused, failed, follows_on}
@@ -78,26 +78,26 @@ module _ {C : Type 0} (meaning : C → Pages) (h : History) (c d : Cache C) (siz
   proper = k.holding.keeps.ready.proper
 
   -- a read that is served leaves the cache following
-  read-on : Quiet (chip-of meaning c) (chip-of meaning d)
-      → ((t : Table) → Holding (pages_of c.journal) (chip-of meaning c) (view_of meaning c) c.space t → Holding (pages_of c.journal) (chip-of meaning d) (view_of meaning c) c.space t)
+  read_on : Quiet (chip_of meaning c) (chip_of meaning d)
+      → ((t : Table) → Holding (pages_of c.journal) (chip_of meaning c) (view_of meaning c) c.space t → Holding (pages_of c.journal) (chip_of meaning d) (view_of meaning c) c.space t)
       → d.off ≡ None → view_of meaning d ≡ view_of meaning c → d.space ≡ c.space → Follows_on meaning h d
-  read-on quiet keeps power view space =
-      let shows = moved (chip-of meaning c) (chip-of meaning d) quiet in
+  read_on quiet keeps power view space =
+      let shows = moved (chip_of meaning c) (chip_of meaning d) quiet in
       follows_on meaning h c d size power k.committed
-      (subst₂ (λ v sp. Holding (pages_of c.journal) (chip-of meaning d) v sp k.committed) (sym view) (sym space) (keeps k.committed k.holding))
+      (subst₂ (λ v sp. Holding (pages_of c.journal) (chip_of meaning d) v sp k.committed) (sym view) (sym space) (keeps k.committed k.holding))
       (subst₂ (λ v s. Agrees h v.table s) (sym view) (sym shows) k.table)
       (subst (Agrees h k.committed) (sym shows) k.agrees)
 
-  pub on_read : (a : DiskAddress) (len : ℕ) (x : Answer) → Read-serves meaning a.0 len c x d → Next meaning (on h) (Read a len) x d
+  pub on_read : (a : DiskAddress) (len : ℕ) (x : Answer) → ReadServes meaning a.0 len c x d → Next meaning (on h) (Read a len) x d
   on_read a len Done r = elim r [ ]
   on_read a len (Marks page n) r = elim r [ ]
   on_read a len (Data page) (buf, _, (_, power, ((quiet, (i, at, has), keeps), view, space))) =
-      (on h, (read_back (h a.0) (view_of meaning c).table (shown (chip-of meaning c)) a.0 i page proper (k.table a.0) at has, refl), read-on quiet keeps power view space)
+      (on h, (read_back (h a.0) (view_of meaning c).table (shown (chip_of meaning c)) a.0 i page proper (k.table a.0) at has, refl), read_on quiet keeps power view space)
   on_read a len (Refused f) (buf, after, _, (_, inl (r, e))) =
       let y = why (view_of meaning c).table a.0 (length buf) f (subst (λ o. read_refusal o (view_of meaning c).table a.0 (length buf) ≡ Some f) k.power r) in
       refused meaning h (Read a len) f d (bright (view_of meaning c).table a.0 f y)
-      (refused_back (h a.0) (view_of meaning c).table (shown (chip-of meaning c)) a.0 f (k.table a.0) y) (subst (Follows_on meaning h) (sym e) k)
+      (refused_back (h a.0) (view_of meaning c).table (shown (chip_of meaning c)) a.0 f (k.table a.0) y) (subst (Follows_on meaning h) (sym e) k)
   on_read a len (Refused f) (buf, after, _, (_, inr (_, dark, (_, fails, left)))) =
       failed meaning h (Read a len) f c d size fails.lost dark
-      (left_more (pages_of c.journal) (chip-of meaning d) (λ x. x ≡ point k.committed (shown (chip-of meaning c))) (AgreesOne h h)
-      (λ x e. inl (agrees_at h k.committed (shown (chip-of meaning c)) x e k.agrees)) (left k.committed k.holding))
+      (left_more (pages_of c.journal) (chip_of meaning d) (λ x. x ≡ point k.committed (shown (chip_of meaning c))) (AgreesOne h h)
+      (λ x e. inl (agrees_at h k.committed (shown (chip_of meaning c)) x e k.agrees)) (left k.committed k.holding))

@@ -9,10 +9,10 @@ use Rattle.table.specs.Tables.{Table}
 use Rattle.journal.specs.Notes.{noted}
 use Rattle.cache.specs.declared.working.Cache.{Cache}
 use Rattle.cache.specs.Refusals.{read_refusal}
-use Rattle.cache.specs.Caches.{Read-call, Exists-call}
+use Rattle.cache.specs.Caches.{ReadCall, ExistsCall}
 use Rattle.history.specs.declared.calls.Answer.{Answer}
 use Rattle.history.specs.declared.calls.Answer.TheVariants.{Done, Data, Marks, Refused}
-use Rattle.history.specs.Serving.{Plain, Read-serves, Exists-serves}
+use Rattle.history.specs.Serving.{Plain, ReadServes, ExistsServes}
 
 -- what the call's result satisfies, the answer made of it satisfies
 pub plainly : (Is : Result (Unit {0}) Fault → Type 0) (result : Result (Unit {0}) Fault) (x : Answer) → Plain (λ r. r ≡ result) x → Is result → Plain Is x
@@ -38,17 +38,17 @@ whole_block (Some f) t a len e = grind arith
 
 -- what was read is the whole of the page that is handed on
 pub read_served : {C : Type 0} (meaning : C → Pages) (a len : ℕ) (c d : Cache C) (scratch after page rest : List ℕ) → len ≤ length scratch
-    → Read-call meaning a (take (len - 0) scratch) c (Ok tt) after d → length after ≡ length (take (len - 0) scratch) → page ≡ take 512 (after ++ rest)
-    → Read-serves meaning a len c (Data page) d
+    → ReadCall meaning a (take (len - 0) scratch) c (Ok tt) after d → length after ≡ length (take (len - 0) scratch) → page ≡ take 512 (after ++ rest)
+    → ReadServes meaning a len c (Data page) d
 read_served meaning a len c d scratch after page rest room call kept copied =
     let whole = whole_block c.off (noted c.journal).table a (length (take (len - 0) scratch)) call.0 in
     let same : page ≡ after = copied ∙ take_at after rest 512 (kept ∙ whole) in
-    (take (len - 0) scratch, front_long len scratch room, subst (λ p. Read-call meaning a (take (len - 0) scratch) c (Ok tt) p d) (sym same) call)
+    (take (len - 0) scratch, front_long len scratch room, subst (λ p. ReadCall meaning a (take (len - 0) scratch) c (Ok tt) p d) (sym same) call)
 
 -- the marks are the front of the page that is handed on
 pub exists_served : {C : Type 0} (meaning : C → Pages) (a len : ℕ) (c : Cache C) (scratch after part rest more : List ℕ) → len ≤ length scratch
-    → Exists-call meaning a (take (len - 0) scratch) c (Ok tt) after → length after ≡ length (take (len - 0) scratch) → part ≡ take (len - 0) (after ++ rest)
-    → Exists-serves meaning a len c (Marks (part ++ more) len) c
+    → ExistsCall meaning a (take (len - 0) scratch) c (Ok tt) after → length after ≡ length (take (len - 0) scratch) → part ≡ take (len - 0) (after ++ rest)
+    → ExistsServes meaning a len c (Marks (part ++ more) len) c
 exists_served meaning a len c scratch after part rest more room call kept copied =
     let long : length after ≡ len = kept ∙ front_long len scratch room in
     let same : part ≡ after = copied ∙ take_at after rest (len - 0) (long ∙ sym (sub-zero len)) in

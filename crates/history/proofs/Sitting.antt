@@ -14,8 +14,8 @@ use Rattle.space.specs.Rooms.{MakesRoom}
 use Rattle.space.specs.Worlds.{World, blank_page, committing, reclaimed, erased_pages, placed, placed_pages}
 use Rattle.history.specs.Histories.{History}
 use Rattle.history.specs.Following.{Agrees}
-use Rattle.history.proofs.Agreeing.{agrees_below, agrees-spared}
-use Rattle.engine.proofs.Flushing.{commit-apart, commit-table, commit-empties}
+use Rattle.history.proofs.Agreeing.{agrees_below, agrees_spared}
+use Rattle.engine.proofs.Flushing.{commit_apart, commit_table, commit_empties}
 use Rattle.space.proofs.Placing.{blank_is, blank_unmarked}
 use Rattle.journal.proofs.Spared.{length_spared, spared_out, dropping_follows}
 
@@ -30,8 +30,8 @@ WorldSits D h w = Sits D h w.noted.table w.pages
 
 module _ (D : ℕ) (h : History) (t : Table) (pages : ℕ → State) (sits : Sits D h t pages) where
   -- pages that read the same where the table marks them
-  pub sits-pages : (after : ℕ → State) → ((i : ℕ) → i < D → marked_at t i ≡ true → after (data_page_at i) ≡ pages (data_page_at i)) → Sits D h t after
-  sits-pages after same = record {
+  pub sits_pages : (after : ℕ → State) → ((i : ℕ) → i < D → marked_at t i ≡ true → after (data_page_at i) ≡ pages (data_page_at i)) → Sits D h t after
+  sits_pages after same = record {
     proper = sits.proper;
     long = sits.long;
     backed = λ i l marked. let (bytes, is) = sits.backed i l marked in (bytes, same i l marked ∙ is);
@@ -39,19 +39,19 @@ module _ (D : ℕ) (h : History) (t : Table) (pages : ℕ → State) (sits : Sit
   }
 
   -- a block without a dirty page is spared
-  pub sits-spared : (b : ℕ) → dirty_in t b ≡ 0 → Sits D h (spared t b) pages
-  sits-spared b clean = record {
+  pub sits_spared : (b : ℕ) → dirty_in t b ≡ 0 → Sits D h (spared t b) pages
+  sits_spared b clean = record {
     proper = (dropping_follows t b (record { table = t; staged = []; area = One; number = 0; next = 0 }) (record { proper = sits.proper; makes = refl; records = tt })).proper;
     long = length_spared t b ∙ sits.long;
     backed = λ i l marked.
         let e = (spared_out t b i marked).1 in
         subst (λ x. IsData (pages (data_page_at i)) x.address.0) (sym e) (sits.backed i l (ap (λ x. has_mark x.mark) (sym e) ∙ marked));
-    agrees = agrees-spared t sits.proper b clean h pages sits.agrees;
+    agrees = agrees_spared t sits.proper b clean h pages sits.agrees;
   }
 
   -- a blank page has no mark
-  pub sits-unmarked : (i : ℕ) → i < D → blank_page pages i ≡ true → marked_at t i ≡ false
-  sits-unmarked i l free = blank_unmarked D pages t i sits.backed l (blank_is (pages (data_page_at i)) free)
+  pub sits_unmarked : (i : ℕ) → i < D → blank_page pages i ≡ true → marked_at t i ≡ false
+  sits_unmarked i l free = blank_unmarked D pages t i sits.backed l (blank_is (pages (data_page_at i)) free)
 
 -- The same table on the same data pages.
 
@@ -63,7 +63,7 @@ pub same_itself : (w : World) → SameData w w
 same_itself w = record { table = refl; pages = λ i. refl }
 
 pub committing_same : (D : ℕ) (w : World) → SameData w (committing D w)
-committing_same D w = record { table = commit-table D w.noted; pages = commit-apart D w.noted w.pages }
+committing_same D w = record { table = commit_table D w.noted; pages = commit_apart D w.noted w.pages }
 
 pub committing_if_same : (must : Bool) (D : ℕ) (w : World) → SameData w (committing_if must D w)
 committing_if_same must D w = cond_both must (committing D w) w (SameData w) (λ _. committing_same D w) (λ _. same_itself w)
@@ -77,14 +77,14 @@ pub reclaimed_sits : (D b : ℕ) (h : History) (w : World) → dirty_in w.noted.
 reclaimed_sits D b h w clean sits =
     let t = w.noted.table in
     let v₁ = dropping b (committed D w.noted) in
-    let table : (reclaimed D b w).noted.table ≡ spared t b = commit-table D v₁ ∙ ap (λ x. spared x b) (commit-table D w.noted) in
+    let table : (reclaimed D b w).noted.table ≡ spared t b = commit_table D v₁ ∙ ap (λ x. spared x b) (commit_table D w.noted) in
     let s₁ = committed_pages D w.noted w.pages in
     let s₂ = committed_pages D v₁ s₁ in
     subst (λ x. Sits D h x (reclaimed D b w).pages) (sym table)
-    (sits-pages D h (spared t b) w.pages (sits-spared D h t w.pages sits b clean) (erased_pages b s₂)
+    (sits_pages D h (spared t b) w.pages (sits_spared D h t w.pages sits b clean) (erased_pages b s₂)
     (λ i l marked.
     cond-false (eqb (block_of (data_page_at i)) b) _ (s₂ (data_page_at i)) (ne_eqb (block_of (data_page_at i)) b (spared_out t b i marked).0)
-    ∙ commit-apart D v₁ s₁ i ∙ commit-apart D w.noted w.pages i))
+    ∙ commit_apart D v₁ s₁ i ∙ commit_apart D w.noted w.pages i))
 
 pub room_sits : (D blocks : ℕ) (h : History) (w u : World) → MakesRoom D blocks w u → WorldSits D h w → WorldSits D h u
 room_sits D blocks h w u (inl (same, free)) sits = subst (WorldSits D h) (sym same) sits
@@ -100,14 +100,14 @@ module _ (D : ℕ) (dirty : Bool) (a : ℕ) (bytes : List ℕ) (i : ℕ) (u : Wo
   abbrev put : World
   put = putting dirty i a room
 
-  pub written-table : (written D dirty a bytes i u).noted.table ≡ entered u.noted.table i (mark_for dirty) a
-  written-table = (committing_if_same (must_commit dirty a u) D put).table ∙ ap (λ t. entered t i (mark_for dirty) a) (roomy_same D (placed D i a bytes u)).table
+  pub written_table : (written D dirty a bytes i u).noted.table ≡ entered u.noted.table i (mark_for dirty) a
+  written_table = (committing_if_same (must_commit dirty a u) D put).table ∙ ap (λ t. entered t i (mark_for dirty) a) (roomy_same D (placed D i a bytes u)).table
 
-  pub written-pages : (j : ℕ) → (written D dirty a bytes i u).pages (data_page_at j) ≡ placed_pages i a bytes u.pages (data_page_at j)
-  written-pages j = (committing_if_same (must_commit dirty a u) D put).pages j ∙ (roomy_same D (placed D i a bytes u)).pages j
+  pub written_pages : (j : ℕ) → (written D dirty a bytes i u).pages (data_page_at j) ≡ placed_pages i a bytes u.pages (data_page_at j)
+  written_pages j = (committing_if_same (must_commit dirty a u) D put).pages j ∙ (roomy_same D (placed D i a bytes u)).pages j
 
   -- a commit leaves nothing staged
-  pub written-staged : must_commit dirty a u ≡ true → length (written D dirty a bytes i u).noted.staged ≡ 0
-  written-staged must =
+  pub written_staged : must_commit dirty a u ≡ true → length (written D dirty a bytes i u).noted.staged ≡ 0
+  written_staged must =
       subst (λ c. length (committing_if c D put).noted.staged ≡ 0) (sym must)
-      (commit-empties D put.noted (omega (arith, length-append room.noted.staged (put_for dirty i a ∷ []))))
+      (commit_empties D put.noted (omega (arith, length-append room.noted.staged (put_for dirty i a ∷ []))))

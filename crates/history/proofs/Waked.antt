@@ -18,7 +18,7 @@ use Rattle.history.specs.declared.calls.Answer.TheVariants.{Done, Data, Marks, R
 use Rattle.journal.specs.Notes.{noted, pages_of}
 use Rattle.journal.specs.Points.{Point, point, Left}
 use Rattle.engine.specs.Works.{CutTo, Woken, StaysDark}
-use Rattle.cache.specs.Caches.{chip-of, view_of, Power-call}
+use Rattle.cache.specs.Caches.{chip_of, view_of, PowerCall}
 use Rattle.history.specs.Histories.{History}
 use Rattle.history.specs.Histories.Phase.{on, off}
 use Rattle.history.specs.Serving.{Plain}
@@ -26,7 +26,7 @@ use Rattle.history.specs.Following.{Agrees, Follows_on, Follows-off}
 use Rattle.journal.proofs.Leaving.{Firm, left_more, left_of_holds}
 use Rattle.journal.proofs.Settledness.{settled_as}
 use Rattle.history.proofs.Agreeing.{agrees_below}
-use Rattle.history.proofs.Outcomes.{AgreesOne, agrees_at, Next, done, darkened, still-dark, follows_on}
+use Rattle.history.proofs.Outcomes.{AgreesOne, agrees_at, Next, done, darkened, still_dark, follows_on}
 use Rattle.history.proofs.Phasing.{lost_number, same_size}
 
 -- the type keeps a chip small enough
@@ -79,47 +79,47 @@ module _ {C : Type 0} (meaning : C → Pages) (c d : Cache C) (size : d.journal.
   small : D ≤ 448
   small = few_pages c.journal.geometry
 
-  woken-on : (g : History) → d.off ≡ None → Woken D (chip-of meaning c) (chip-of meaning d) d.journal d.space → Agrees g (view_of meaning d).table (shown (chip-of meaning d))
+  woken_on : (g : History) → d.off ≡ None → Woken D (chip_of meaning c) (chip_of meaning d) d.journal d.space → Agrees g (view_of meaning d).table (shown (chip_of meaning d))
       → Follows_on meaning g d
-  woken-on g power w a = follows_on meaning g c d size power (view_of meaning d).table w.holding a a
+  woken_on g power w a = follows_on meaning g c d size power (view_of meaning d).table w.holding a a
 
-  dark-off : (h h' : History) (f : Fault) → d.off ≡ Some f → Lost f (chip-of meaning d) → Left D (chip-of meaning d) (AgreesOne h h') → Follows-off meaning h h' d
-  dark-off h h' f power lost left = record {
+  dark_off : (h h' : History) (f : Fault) → d.off ≡ Some f → Lost f (chip_of meaning d) → Left D (chip_of meaning d) (AgreesOne h h') → Follows-off meaning h h' d
+  dark_off h h' f power lost left = record {
     fault = f;
     power = power;
-    number = lost_number f (chip-of meaning d) lost;
-    left = subst (λ n. Left n (chip-of meaning d) (AgreesOne h h')) (sym (same_size meaning c d size)) left;
+    number = lost_number f (chip_of meaning d) lost;
+    left = subst (λ n. Left n (chip_of meaning d) (AgreesOne h h')) (sym (same_size meaning c d size)) left;
   }
 
   -- from on: a cut may come at any time, and leaves the committed table
   module _ (h : History) (k : Follows_on meaning h c) where
-    firm : Firm D (chip-of meaning c) k.committed (shown (chip-of meaning c))
-    firm i l e = settled_as (chip-of meaning c) (data_page_at i) (shown (chip-of meaning c) (data_page_at i)) (k.holding.keeps.ready.firm i l e) refl
+    firm : Firm D (chip_of meaning c) k.committed (shown (chip_of meaning c))
+    firm i l e = settled_as (chip_of meaning c) (data_page_at i) (shown (chip_of meaning c) (data_page_at i)) (k.holding.keeps.ready.firm i l e) refl
 
-    held-left : Left D (chip-of meaning c) (AgreesOne h h)
-    held-left =
-        left_more D (chip-of meaning c) (λ x. x ≡ point k.committed (shown (chip-of meaning c))) (AgreesOne h h)
-        (λ x e. inl (agrees_at h k.committed (shown (chip-of meaning c)) x e k.agrees))
-        (left_of_holds D (chip-of meaning c) (view_of meaning c).area (view_of meaning c).number k.committed (shown (chip-of meaning c)) k.holding.keeps.ready.holds firm)
+    held_left : Left D (chip_of meaning c) (AgreesOne h h)
+    held_left =
+        left_more D (chip_of meaning c) (λ x. x ≡ point k.committed (shown (chip_of meaning c))) (AgreesOne h h)
+        (λ x e. inl (agrees_at h k.committed (shown (chip_of meaning c)) x e k.agrees))
+        (left_of_holds D (chip_of meaning c) (view_of meaning c).area (view_of meaning c).number k.committed (shown (chip_of meaning c)) k.holding.keeps.ready.holds firm)
 
-    pub on-waked : (x : Answer) → Plain (λ r. Power-call meaning c r d) x → Next meaning (on h) PowerOn x d
-    on-waked Done (power, w) =
-        done meaning h PowerOn d refl (woken-on h power w (⊎_elim (λ a. a) (λ a. a) (woken_agrees D small (chip-of meaning c) (chip-of meaning d) d.journal d.space h h held-left w)))
-    on-waked (Refused f) (power, dark, _, _) =
-        let (lost, left) = dark_lost D small (chip-of meaning c) (chip-of meaning d) f (AgreesOne h h) held-left dark in
-        darkened meaning h PowerOn f d (lost_number f (chip-of meaning d) lost) (dark-off h h f power lost left)
-    on-waked (Data page) r = elim r [ ]
-    on-waked (Marks page len) r = elim r [ ]
+    pub on_waked : (x : Answer) → Plain (λ r. PowerCall meaning c r d) x → Next meaning (on h) PowerOn x d
+    on_waked Done (power, w) =
+        done meaning h PowerOn d refl (woken_on h power w (⊎_elim (λ a. a) (λ a. a) (woken_agrees D small (chip_of meaning c) (chip_of meaning d) d.journal d.space h h held_left w)))
+    on_waked (Refused f) (power, dark, _, _) =
+        let (lost, left) = dark_lost D small (chip_of meaning c) (chip_of meaning d) f (AgreesOne h h) held_left dark in
+        darkened meaning h PowerOn f d (lost_number f (chip_of meaning d) lost) (dark_off h h f power lost left)
+    on_waked (Data page) r = elim r [ ]
+    on_waked (Marks page len) r = elim r [ ]
 
   module _ (h h' : History) (k : Follows-off meaning h h' c) where
-    pub off-waked : (x : Answer) → Plain (λ r. Power-call meaning c r d) x → Next meaning (off h h') PowerOn x d
-    off-waked Done (power, w) = go (woken_agrees D small (chip-of meaning c) (chip-of meaning d) d.journal d.space h h' k.left w)
+    pub off_waked : (x : Answer) → Plain (λ r. PowerCall meaning c r d) x → Next meaning (off h h') PowerOn x d
+    off_waked Done (power, w) = go (woken_agrees D small (chip_of meaning c) (chip_of meaning d) d.journal d.space h h' k.left w)
       where
-        go : Agrees h (view_of meaning d).table (shown (chip-of meaning d)) ⊎ Agrees h' (view_of meaning d).table (shown (chip-of meaning d)) → Next meaning (off h h') PowerOn Done d
-        go (inl a) = (on h, (tt, refl, inl refl), woken-on h power w a)
-        go (inr a) = (on h', (tt, refl, inr refl), woken-on h' power w a)
-    off-waked (Refused f) (power, dark, _, _) =
-        let (lost, left) = dark_lost D small (chip-of meaning c) (chip-of meaning d) f (AgreesOne h h') k.left dark in
-        still-dark meaning h h' PowerOn f d (lost_number f (chip-of meaning d) lost) (dark-off h h' f power lost left)
-    off-waked (Data page) r = elim r [ ]
-    off-waked (Marks page len) r = elim r [ ]
+        go : Agrees h (view_of meaning d).table (shown (chip_of meaning d)) ⊎ Agrees h' (view_of meaning d).table (shown (chip_of meaning d)) → Next meaning (off h h') PowerOn Done d
+        go (inl a) = (on h, (tt, refl, inl refl), woken_on h power w a)
+        go (inr a) = (on h', (tt, refl, inr refl), woken_on h' power w a)
+    off_waked (Refused f) (power, dark, _, _) =
+        let (lost, left) = dark_lost D small (chip_of meaning c) (chip_of meaning d) f (AgreesOne h h') k.left dark in
+        still_dark meaning h h' PowerOn f d (lost_number f (chip_of meaning d) lost) (dark_off h h' f power lost left)
+    off_waked (Data page) r = elim r [ ]
+    off_waked (Marks page len) r = elim r [ ]

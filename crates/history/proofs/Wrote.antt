@@ -22,7 +22,7 @@ use Rattle.space.specs.Worlds.{World, world, blank_page, placed_pages}
 use Rattle.space.specs.declared.blanks.Space.{Space}
 use Rattle.cache.specs.Refusals.{write_refusal, off_by}
 use Rattle.cache.specs.declared.working.Cache.{Cache}
-use Rattle.cache.specs.Caches.{chip-of, view_of, Write-call}
+use Rattle.cache.specs.Caches.{chip_of, view_of, WriteCall}
 use Rattle.history.specs.declared.calls.Call.{Call}
 use Rattle.history.specs.declared.calls.Call.TheVariants.{WriteDirty, WriteClean}
 use Rattle.history.specs.declared.calls.Answer.{Answer}
@@ -32,11 +32,11 @@ use Rattle.history.specs.Histories.Slot.{cached}
 use Rattle.history.specs.Histories.Phase.{on, off}
 use Rattle.history.specs.Serving.{Plain, Serves}
 use Rattle.history.specs.Following.{Agrees, Follows_on, Follows-off, Follows}
-use Rattle.history.proofs.Agreeing.{slot_for, agrees_pages, agrees-dropped-new, agrees-entered, placed-away}
+use Rattle.history.proofs.Agreeing.{slot_for, agrees_pages, agrees_dropped_new, agrees_entered, placed_away}
 use Rattle.journal.proofs.Leaving.{left_more}
-use Rattle.history.proofs.Phasing.{moves-served, moves-refused, moves-dark, stays_dark, lost_number, lost_off, same_size, follows-again}
+use Rattle.history.proofs.Phasing.{moves_served, moves_refused, moves_dark, stays_dark, lost_number, lost_off, same_size, follows_again}
 use Rattle.space.proofs.Placing.{blank_is, held_unmarked}
-use Rattle.history.proofs.Sitting.{WorldSits, sits-spared, sits-unmarked, room_sits, written-table, written-pages, written-staged}
+use Rattle.history.proofs.Sitting.{WorldSits, sits_spared, sits_unmarked, room_sits, written_table, written_pages, written_staged}
 
 -- with nothing staged, the committed table is the one in memory
 pub nothing_staged : (t : Table) (rs : List Record) (u : Table) → length rs ≡ 0 → replayed (Some t) rs ≡ Some u → t ≡ u
@@ -73,48 +73,48 @@ module _ (D blocks : ℕ) (dirty : Bool) (a : ℕ) (bytes : List ℕ) (m : Pages
     sits = room_sits D blocks h w u room start
 
     unmarked : marked_at u.noted.table i ≡ false
-    unmarked = sits-unmarked D h u.noted.table u.pages sits i first.inside first.found
+    unmarked = sits_unmarked D h u.noted.table u.pages sits i first.inside first.found
 
-    entered-agrees : Agrees after (entered u.noted.table i (mark_for dirty) a) (placed_pages i a bytes u.pages)
-    entered-agrees = agrees-entered u.noted.table i a bytes u.pages unmarked (subst (λ n. i < n) (sym sits.long) first.inside) dirty h sits.agrees
+    entered_agrees : Agrees after (entered u.noted.table i (mark_for dirty) a) (placed_pages i a bytes u.pages)
+    entered_agrees = agrees_entered u.noted.table i a bytes u.pages unmarked (subst (λ n. i < n) (sym sits.long) first.inside) dirty h sits.agrees
 
-    end-agrees : Agrees after end.noted.table end.pages
-    end-agrees =
+    end_agrees : Agrees after end.noted.table end.pages
+    end_agrees =
         let table = entered u.noted.table i (mark_for dirty) a in
-        subst (λ x. Agrees after x end.pages) (sym (written-table D dirty a bytes i u))
-        (agrees_pages after table (placed_pages i a bytes u.pages) end.pages (λ j marked. written-pages D dirty a bytes i u j) entered-agrees)
+        subst (λ x. Agrees after x end.pages) (sym (written_table D dirty a bytes i u))
+        (agrees_pages after table (placed_pages i a bytes u.pages) end.pages (λ j marked. written_pages D dirty a bytes i u j) entered_agrees)
 
     -- a table without the address, and without a mark for the new page, agrees too if nothing had to be committed
-    without-agrees : must_commit dirty a u ≡ false → (x : Table) → Agrees h x u.pages → held x a ≡ false → marked_at x i ≡ false → Agrees after x end.pages
-    without-agrees need x agrees unheld bare =
+    without_agrees : must_commit dirty a u ≡ false → (x : Table) → Agrees h x u.pages → held x a ≡ false → marked_at x i ≡ false → Agrees after x end.pages
+    without_agrees need x agrees unheld bare =
         let away : (j : ℕ) → marked_at x j ≡ true → j ≡ i → ⊥ = λ j marked e. both_ways (marked_at x j) (ap (marked_at x) e ∙ bare) marked in
         subst (λ b. Agrees (with_slot h a (slot_for b bytes)) x end.pages) (sym (needless dirty (held u.noted.table a) need))
         (agrees_pages (with_slot h a (cached bytes)) x u.pages end.pages
-        (λ j marked. written-pages D dirty a bytes i u j ∙ placed-away i a bytes u.pages j (away j marked)) (agrees-dropped-new h x u.pages agrees a bytes unheld))
+        (λ j marked. written_pages D dirty a bytes i u j ∙ placed_away i a bytes u.pages j (away j marked)) (agrees_dropped_new h x u.pages agrees a bytes unheld))
 
     module _ (m' : Pages) (v' : Noted) (sp' : Space) (is : world m' v' sp' ≡ end) where
-      pub memory-agrees : Agrees after v'.table (shown m')
-      memory-agrees = subst (λ x. Agrees after x.noted.table x.pages) (sym is) end-agrees
+      pub memory_agrees : Agrees after v'.table (shown m')
+      memory_agrees = subst (λ x. Agrees after x.noted.table x.pages) (sym is) end_agrees
 
       -- the table committed before does not mark the new page
-      old-unmarked : u ≡ w → marked_at t i ≡ false
-      old-unmarked same =
+      old_unmarked : u ≡ w → marked_at t i ≡ false
+      old_unmarked same =
           held_unmarked D m v t i holding.keeps.ready first.inside (blank_is (shown m (data_page_at i)) (subst (λ x. blank_page x.pages i ≡ true) same first.found))
 
       uncommitted : (t' : Table) → must_commit dirty a u ≡ false → WriteCommits a w u v'.table t t' → Agrees after t' end.pages
-      uncommitted t' need (inl e) = subst (λ x. Agrees after x end.pages) (sym (e ∙ ap (λ x. x.noted.table) is)) end-agrees
+      uncommitted t' need (inl e) = subst (λ x. Agrees after x end.pages) (sym (e ∙ ap (λ x. x.noted.table) is)) end_agrees
       uncommitted t' need (inr (unheld, inl (same, e))) =
           subst (λ x. Agrees after x end.pages) (sym e)
-          (without-agrees need t (subst (λ x. Agrees h t x.pages) (sym same) on-chip) (ap (λ x. held x a) (sym e) ∙ unheld) (old-unmarked same))
+          (without_agrees need t (subst (λ x. Agrees h t x.pages) (sym same) on-chip) (ap (λ x. held x a) (sym e) ∙ unheld) (old_unmarked same))
       uncommitted t' need (inr (unheld, inr e)) =
-          subst (λ x. Agrees after x end.pages) (sym e) (without-agrees need u.noted.table sits.agrees (ap (λ x. held x a) (sym e) ∙ unheld) unmarked)
+          subst (λ x. Agrees after x end.pages) (sym e) (without_agrees need u.noted.table sits.agrees (ap (λ x. held x a) (sym e) ∙ unheld) unmarked)
 
-      pub chip-agrees : (t' : Table) → Holding D m' v' sp' t' → WriteCommits a w u v'.table t t' → Agrees after t' (shown m')
-      chip-agrees t' after-holding commits =
+      pub chip_agrees : (t' : Table) → Holding D m' v' sp' t' → WriteCommits a w u v'.table t t' → Agrees after t' (shown m')
+      chip_agrees t' after-holding commits =
           ⊎_elim
           (λ must.
-          let staged : length v'.staged ≡ 0 = ap (λ x. length x.noted.staged) is ∙ written-staged D dirty a bytes i u must in
-          subst (λ x. Agrees after x (shown m')) (sym (nothing_staged t' v'.staged v'.table staged after-holding.keeps.ready.makes)) memory-agrees)
+          let staged : length v'.staged ≡ 0 = ap (λ x. length x.noted.staged) is ∙ written_staged D dirty a bytes i u must in
+          subst (λ x. Agrees after x (shown m')) (sym (nothing_staged t' v'.staged v'.table staged after-holding.keeps.ready.makes)) memory_agrees)
           (λ need. subst (λ x. Agrees after t' x.pages) (sym is) (uncommitted t' need commits))
           (cases_Bool (must_commit dirty a u))
 
@@ -123,17 +123,17 @@ module _ (D blocks : ℕ) (dirty : Bool) (a : ℕ) (bytes : List ℕ) (m : Pages
   as_before : (x : Point) (y : Table) → x ≡ point y w.pages → Agrees h y w.pages → AgreesEither h after x
   as_before x y e agrees = inl (subst (λ z. Agrees h z.table z.pages) (sym e) agrees)
 
-  room-point : (x : Point) → RoomPoints D blocks t w x → AgreesEither h after x
-  room-point x (none, (b, victim, inl e)) = as_before x t e on-chip
-  room-point x (none, (b, victim, inr (inl e))) = as_before x v.table e in_memory
-  room-point x (none, (b, victim, inr (inr e))) =
-      as_before x (spared v.table b) e (sits-spared D h v.table (shown m) start b (eqb-true (dirty_in v.table b) 0 victim.fit)).agrees
+  room_point : (x : Point) → RoomPoints D blocks t w x → AgreesEither h after x
+  room_point x (none, (b, victim, inl e)) = as_before x t e on-chip
+  room_point x (none, (b, victim, inr (inl e))) = as_before x v.table e in_memory
+  room_point x (none, (b, victim, inr (inr e))) =
+      as_before x (spared v.table b) e (sits_spared D h v.table (shown m) start b (eqb-true (dirty_in v.table b) 0 victim.fit)).agrees
 
-  pub write-point : (x : Point) → WritePoints D blocks dirty a bytes w t x → AgreesEither h after x
-  write-point x (inl e) = as_before x t e on-chip
-  write-point x (inr (inl e)) = as_before x v.table e in_memory
-  write-point x (inr (inr (inl room))) = room-point x room
-  write-point x (inr (inr (inr (u, i, room, first, e)))) = inr (subst (λ z. Agrees after z.table z.pages) (sym e) (entered-agrees u i room first))
+  pub write_point : (x : Point) → WritePoints D blocks dirty a bytes w t x → AgreesEither h after x
+  write_point x (inl e) = as_before x t e on-chip
+  write_point x (inr (inl e)) = as_before x v.table e in_memory
+  write_point x (inr (inr (inl room))) = room_point x room
+  write_point x (inr (inr (inr (u, i, room, first, e)))) = inr (subst (λ z. Agrees after z.table z.pages) (sym e) (entered_agrees u i room first))
 
 -- Refusals of a write.
 
@@ -167,40 +167,40 @@ module _ {C : Type 0} (meaning : C → Pages) (dirty : Bool) (a : ℕ) (bytes : 
   D = pages_of c.journal
 
   abbrev before : World
-  before = world (chip-of meaning c) (view_of meaning c) c.space
+  before = world (chip_of meaning c) (view_of meaning c) c.space
 
   module _ (h : History) (f : Follows_on meaning h c) where
     abbrev next : History
     next = with_slot h a (slot_for dirty bytes)
 
-    served-follows : d.off ≡ None → Writes D blocks dirty a bytes (chip-of meaning c) (view_of meaning c) c.space (Ok tt) (chip-of meaning d) (view_of meaning d) d.space
+    served_follows : d.off ≡ None → Writes D blocks dirty a bytes (chip_of meaning c) (view_of meaning c) c.space (Ok tt) (chip_of meaning d) (view_of meaning d) d.space
         → Follows_on meaning next d
-    served-follows power (u, i, room, first, (long, is, held), settled) =
-        let m = chip-of meaning c in
+    served_follows power (u, i, room, first, (long, is, held), settled) =
+        let m = chip_of meaning c in
         let v = view_of meaning c in
-        let m' = chip-of meaning d in
+        let m' = chip_of meaning d in
         let v' = view_of meaning d in
         let (t', holding, commits) = held f.committed f.holding in
         record {
           power = power;
-          table = memory-agrees D blocks dirty a bytes m v c.space h f.committed f.holding f.table f.agrees u i room first m' v' d.space is;
+          table = memory_agrees D blocks dirty a bytes m v c.space h f.committed f.holding f.table f.agrees u i room first m' v' d.space is;
           committed = t';
           holding = subst (λ n. Holding n m' v' d.space t') (sym (same_size meaning c d size)) holding;
-          agrees = chip-agrees D blocks dirty a bytes m v c.space h f.committed f.holding f.table f.agrees u i room first m' v' d.space is t' holding commits;
+          agrees = chip_agrees D blocks dirty a bytes m v c.space h f.committed f.holding f.table f.agrees u i room first m' v' d.space is t' holding commits;
         }
 
     -- power failed: whichever way the cut went
-    failed-follows : (g : Fault) → d.off ≡ off_by g → Fails (chip-of meaning c) g (chip-of meaning d)
-        → ((t : Table) → Holding D (chip-of meaning c) (view_of meaning c) c.space t → Left D (chip-of meaning d) (WritePoints D blocks dirty a bytes before t))
+    failed_follows : (g : Fault) → d.off ≡ off_by g → Fails (chip_of meaning c) g (chip_of meaning d)
+        → ((t : Table) → Holding D (chip_of meaning c) (view_of meaning c) c.space t → Left D (chip_of meaning d) (WritePoints D blocks dirty a bytes before t))
         → Follows-off meaning h next d
-    failed-follows g power fails left = record {
+    failed_follows g power fails left = record {
       fault = g;
-      power = power ∙ lost_off g (chip-of meaning d) fails.lost;
-      number = lost_number g (chip-of meaning d) fails.lost;
+      power = power ∙ lost_off g (chip_of meaning d) fails.lost;
+      number = lost_number g (chip_of meaning d) fails.lost;
       left =
-          subst (λ n. Left n (chip-of meaning d) (AgreesEither h next)) (sym (same_size meaning c d size))
-          (left_more D (chip-of meaning d) (WritePoints D blocks dirty a bytes before f.committed) (AgreesEither h next)
-          (write-point D blocks dirty a bytes (chip-of meaning c) (view_of meaning c) c.space h f.committed f.holding f.table f.agrees) (left f.committed f.holding));
+          subst (λ n. Left n (chip_of meaning d) (AgreesEither h next)) (sym (same_size meaning c d size))
+          (left_more D (chip_of meaning d) (WritePoints D blocks dirty a bytes before f.committed) (AgreesEither h next)
+          (write_point D blocks dirty a bytes (chip_of meaning c) (view_of meaning c) c.space h f.committed f.holding f.table f.agrees) (left f.committed f.holding));
     }
 
   module _ (call : Call) (stepped : (h : History) → step h call ≡ with_slot h a (slot_for dirty bytes)) (says : (h : History) (x : Answer) → Says h call x) where
@@ -208,19 +208,19 @@ module _ {C : Type 0} (meaning : C → Pages) (dirty : Bool) (a : ℕ) (bytes : 
     Moved p x = (next : Phase) × Moves p call x next × Follows meaning next d
 
     refused : (h : History) (g : Fault) (n : ℕ) → refusal_number g.refusal ≡ n → eqb n 1 ≡ false → eqb n 0 ≡ false → Follows_on meaning h d → Moved (on h) (Refused g)
-    refused h g n e bright not f = (on h, moves-refused h call (Refused g) (ap (λ k. eqb k 1) e ∙ bright) (ap (λ k. eqb k 0) e ∙ not) (says h (Refused g)), f)
+    refused h g n e bright not f = (on h, moves_refused h call (Refused g) (ap (λ k. eqb k 1) e ∙ bright) (ap (λ k. eqb k 0) e ∙ not) (says h (Refused g)), f)
 
-    wrote : (p : Phase) (x : Answer) → Follows meaning p c → Plain (λ r. Write-call meaning dirty a bytes c r d) x → Moved p x
+    wrote : (p : Phase) (x : Answer) → Follows meaning p c → Plain (λ r. WriteCall meaning dirty a bytes c r d) x → Moved p x
     wrote (on h) Done f (none, power, works) =
-        (on (step h call), moves-served h call Done refl (says h Done), subst (λ k. Follows_on meaning k d) (sym (stepped h)) (served-follows h f power works))
+        (on (step h call), moves_served h call Done refl (says h Done), subst (λ k. Follows_on meaning k d) (sym (stepped h)) (served_follows h f power works))
     wrote (on h) (Refused g) f (inl (refusal, same)) =
         refused h g 2 (refused_number c.off a (length bytes) g f.power refusal) refl refl (subst (Follows_on meaning h) (sym same) f)
     wrote (on h) (Refused g) f (inr (none, power, inl (full, no_room, chip, view, space))) =
-        refused h g 9 (ap (λ k. refusal_number k.refusal) full) refl refl (follows-again meaning c d size h (power ∙ ap off_by full) chip view space f)
+        refused h g 9 (ap (λ k. refusal_number k.refusal) full) refl refl (follows_again meaning c d size h (power ∙ ap off_by full) chip view space f)
     wrote (on h) (Refused g) f (inr (none, power, inr (fails, left))) = (
       off h (step h call),
-      moves-dark h call (Refused g) (lost_number g (chip-of meaning d) fails.lost),
-      subst (λ k. Follows-off meaning h k d) (sym (stepped h)) (failed-follows h f g power fails left),
+      moves_dark h call (Refused g) (lost_number g (chip_of meaning d) fails.lost),
+      subst (λ k. Follows-off meaning h k d) (sym (stepped h)) (failed_follows h f g power fails left),
     )
     wrote (on h) (Data page) f k = absurd k
     wrote (on h) (Marks page len) f k = absurd k
@@ -237,10 +237,10 @@ module _ {C : Type 0} (meaning : C → Pages) (dirty : Bool) (a : ℕ) (bytes : 
 -- The two writes.
 
 module _ {C : Type 0} (meaning : C → Pages) (p : Phase) (c d : Cache C) (a : DiskAddress) (bytes : Bor (List ℕ)) (x : Answer) where
-  pub wrote-dirty : d.journal.geometry ≡ c.journal.geometry → Follows meaning p c → Serves meaning c (WriteDirty a bytes) x d
+  pub wrote_dirty : d.journal.geometry ≡ c.journal.geometry → Follows meaning p c → Serves meaning c (WriteDirty a bytes) x d
       → (next : Phase) × Moves p (WriteDirty a bytes) x next × Follows meaning next d
-  wrote-dirty size f h = wrote meaning true a.0 bytes.now c d size (WriteDirty a bytes) (λ h. refl) (λ h x. tt) p x f h
+  wrote_dirty size f h = wrote meaning true a.0 bytes.now c d size (WriteDirty a bytes) (λ h. refl) (λ h x. tt) p x f h
 
-  pub wrote-clean : d.journal.geometry ≡ c.journal.geometry → Follows meaning p c → Serves meaning c (WriteClean a bytes) x d
+  pub wrote_clean : d.journal.geometry ≡ c.journal.geometry → Follows meaning p c → Serves meaning c (WriteClean a bytes) x d
       → (next : Phase) × Moves p (WriteClean a bytes) x next × Follows meaning next d
-  wrote-clean size f h = wrote meaning false a.0 bytes.now c d size (WriteClean a bytes) (λ h. refl) (λ h x. tt) p x f h
+  wrote_clean size f h = wrote meaning false a.0 bytes.now c d size (WriteClean a bytes) (λ h. refl) (λ h x. tt) p x f h

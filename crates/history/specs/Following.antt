@@ -11,7 +11,7 @@ use Rattle.table.specs.Tables.{Table, entry, entry_at, holds, held}
 use Rattle.journal.specs.Notes.{pages_of}
 use Rattle.journal.specs.Points.{Left}
 use Rattle.cache.specs.declared.working.Cache.{Cache}
-use Rattle.cache.specs.Caches.{chip-of, view_of, Holds-table}
+use Rattle.cache.specs.Caches.{chip_of, view_of, HoldsTable}
 use Rattle.history.specs.Histories.{Slot, History, Phase}
 use Rattle.history.specs.Histories.Slot.{absent, cached, kept}
 use Rattle.history.specs.Histories.Phase.{on, off}
@@ -33,17 +33,17 @@ module _ {C : Type 0} (meaning : C → Pages) where
   -- the table in memory and the committed one both agree with the history
   pub record Follows_on (h : History) (c : Cache C) : Type 0 where
     pub power : c.off ≡ None
-    pub table : Agrees h (view_of meaning c).table (shown (chip-of meaning c))
+    pub table : Agrees h (view_of meaning c).table (shown (chip_of meaning c))
     pub committed : Table
-    pub holding : Holds-table meaning c committed
-    pub agrees : Agrees h committed (shown (chip-of meaning c))
+    pub holding : HoldsTable meaning c committed
+    pub agrees : Agrees h committed (shown (chip_of meaning c))
 
   -- whichever way a cut goes, recovery comes out at a table that agrees with one of the two histories
   pub record Follows-off (h h' : History) (c : Cache C) : Type 0 where
     pub fault : Fault
     pub power : c.off ≡ Some fault
     pub number : refusal_number fault.refusal ≡ 1
-    pub left : Left (pages_of c.journal) (chip-of meaning c) (λ x. Agrees h x.table x.pages ⊎ Agrees h' x.table x.pages)
+    pub left : Left (pages_of c.journal) (chip_of meaning c) (λ x. Agrees h x.table x.pages ⊎ Agrees h' x.table x.pages)
 
   abbrev pub Follows : Phase → Cache C → Type 0
   Follows (on h) c = Follows_on h c

@@ -5,7 +5,7 @@ use Rattle.device.specs.Chips.{Pages}
 use Rattle.layout.specs.Geometry.{geometry_refusal}
 use Rattle.journal.specs.Steps.{Fails}
 use Rattle.cache.specs.declared.working.Cache.{Cache}
-use Rattle.cache.specs.Caches.{Write-call, Read-call, Evict-call, Clean-call, Exists-call, Sync-call, Power-call}
+use Rattle.cache.specs.Caches.{WriteCall, ReadCall, EvictCall, CleanCall, ExistsCall, SyncCall, PowerCall}
 use Rattle.history.specs.declared.calls.Call.{Call}
 use Rattle.history.specs.declared.calls.Call.TheVariants.{WriteDirty, WriteClean, Read, Evict, Clean, Exists, Sync, PowerOn}
 use Rattle.history.specs.declared.calls.Answer.{Answer}
@@ -23,28 +23,28 @@ Plain Result-is (Marks page len) = ⊥
 
 module _ {C : Type 0} (meaning : C → Pages) where
   -- a read into a buffer of this length
-  abbrev pub Read-serves : ℕ → ℕ → Cache C → Answer → Cache C → Type 0
-  Read-serves a len c Done d = ⊥
-  Read-serves a len c (Marks page n) d = ⊥
-  Read-serves a len c (Data page) d = (buf : List ℕ) × (length buf ≡ len) × Read-call meaning a buf c (Ok tt) page d
-  Read-serves a len c (Refused f) d = (buf : List ℕ) × (after : List ℕ) × (length buf ≡ len) × Read-call meaning a buf c (Err f) after d
+  abbrev pub ReadServes : ℕ → ℕ → Cache C → Answer → Cache C → Type 0
+  ReadServes a len c Done d = ⊥
+  ReadServes a len c (Marks page n) d = ⊥
+  ReadServes a len c (Data page) d = (buf : List ℕ) × (length buf ≡ len) × ReadCall meaning a buf c (Ok tt) page d
+  ReadServes a len c (Refused f) d = (buf : List ℕ) × (after : List ℕ) × (length buf ≡ len) × ReadCall meaning a buf c (Err f) after d
 
   -- the marks of as many addresses as the buffer has room for; the cache is only looked at
-  abbrev pub Exists-serves : ℕ → ℕ → Cache C → Answer → Cache C → Type 0
-  Exists-serves a len c Done d = ⊥
-  Exists-serves a len c (Data page) d = ⊥
-  Exists-serves a len c (Marks page n) d = (d ≡ c) × (n ≡ len) × ((buf : List ℕ) × (length buf ≡ len) × Exists-call meaning a buf c (Ok tt) (take n page))
-  Exists-serves a len c (Refused f) d = (d ≡ c) × ((buf : List ℕ) × (after : List ℕ) × (length buf ≡ len) × Exists-call meaning a buf c (Err f) after)
+  abbrev pub ExistsServes : ℕ → ℕ → Cache C → Answer → Cache C → Type 0
+  ExistsServes a len c Done d = ⊥
+  ExistsServes a len c (Data page) d = ⊥
+  ExistsServes a len c (Marks page n) d = (d ≡ c) × (n ≡ len) × ((buf : List ℕ) × (length buf ≡ len) × ExistsCall meaning a buf c (Ok tt) (take n page))
+  ExistsServes a len c (Refused f) d = (d ≡ c) × ((buf : List ℕ) × (after : List ℕ) × (length buf ≡ len) × ExistsCall meaning a buf c (Err f) after)
 
   abbrev pub Serves : Cache C → Call → Answer → Cache C → Type 0
-  Serves c (WriteDirty a bytes) x d = Plain (λ r. Write-call meaning true a.0 bytes.now c r d) x
-  Serves c (WriteClean a bytes) x d = Plain (λ r. Write-call meaning false a.0 bytes.now c r d) x
-  Serves c (Read a len) x d = Read-serves a.0 len c x d
-  Serves c (Evict a) x d = Plain (λ r. Evict-call meaning a.0 c r d) x
-  Serves c (Clean a) x d = Plain (λ r. Clean-call meaning a.0 c r d) x
-  Serves c (Exists a len) x d = Exists-serves a.0 len c x d
-  Serves c Sync x d = Plain (λ r. Sync-call meaning c r d) x
-  Serves c PowerOn x d = Plain (λ r. Power-call meaning c r d) x
+  Serves c (WriteDirty a bytes) x d = Plain (λ r. WriteCall meaning true a.0 bytes.now c r d) x
+  Serves c (WriteClean a bytes) x d = Plain (λ r. WriteCall meaning false a.0 bytes.now c r d) x
+  Serves c (Read a len) x d = ReadServes a.0 len c x d
+  Serves c (Evict a) x d = Plain (λ r. EvictCall meaning a.0 c r d) x
+  Serves c (Clean a) x d = Plain (λ r. CleanCall meaning a.0 c r d) x
+  Serves c (Exists a len) x d = ExistsServes a.0 len c x d
+  Serves c Sync x d = Plain (λ r. SyncCall meaning c r d) x
+  Serves c PowerOn x d = Plain (λ r. PowerCall meaning c r d) x
 
 -- A whole run: the answers fit, whenever the form was served. A chip of a wrong size, or whose power failed in the form, is not formed; without memory for the
 -- answers nothing is touched.

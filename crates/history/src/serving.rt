@@ -1,7 +1,7 @@
 // One call of a list, made on a cache.
 ghost use Rattle.std.specs.Prelude.{◌≡◌, length};
 ghost use Rattle.cache.specs.Caches.{Sound};
-ghost use Rattle.history.specs.Serving.{Plain, Serves, Read-serves, Exists-serves};
+ghost use Rattle.history.specs.Serving.{Plain, Serves, ReadServes, ExistsServes};
 
 use crate::calls::{Answer, Call};
 use cache::Cache;
@@ -23,7 +23,7 @@ fn read<C: Chip>(cache: &mut Cache<C>, address: DiskAddress, len: u16, scratch: 
     requires room { length scratch.old ≡ 65536 }
     ensures sound { Sound C.Chip.meaning C.Chip.sound cache.new }
     ensures size { cache.new.journal.geometry ≡ cache.old.journal.geometry }
-    ensures serves { Read-serves C.Chip.meaning address.0 len cache.old result cache.new }
+    ensures serves { ReadServes C.Chip.meaning address.0 len cache.old result cache.new }
 {
     match cache.read(address, &mut scratch[0..len as usize]) {
         Ok(()) => {
@@ -39,7 +39,7 @@ fn read<C: Chip>(cache: &mut Cache<C>, address: DiskAddress, len: u16, scratch: 
 fn exists<C: Chip>(cache: &Cache<C>, first: DiskAddress, len: u16, scratch: &mut [u8]) -> Answer
     requires sound { Sound C.Chip.meaning C.Chip.sound cache.now }
     requires room { length scratch.old ≡ 65536 }
-    ensures { Exists-serves C.Chip.meaning first.0 len cache.now result cache.now }
+    ensures { ExistsServes C.Chip.meaning first.0 len cache.now result cache.now }
 {
     match cache.exists(first, &mut scratch[0..len as usize]) {
         Ok(()) => {

@@ -10,37 +10,37 @@ use Rattle.device.specs.Chips.{Note, State, Tears, page_count, Reads, read_refus
 use Rattle.device.specs.Chips.State.{held}
 use Rattle.device.proofs.Settling.{in_order_met}
 use Rattle.chip_frames.specs.Frames.{Whole, blocks_in, page_in, page_of, image_pages, Framed, Restated, settling, erasing, cutting}
-use Rattle.chip_frames.proofs.Pagewise.{settled-pages, erased_pages, cut-pages, framed-pages, unsettled_pages}
+use Rattle.chip_frames.proofs.Pagewise.{settled_pages, erased_pages, cut_pages, framed_pages, unsettled_pages}
 use Rattle.image.specs.Exact.{View, Counted, Looked, Switched}
 use Rattle.image.specs.OfChip.{chip_means}
-use Rattle.image.proofs.Exactly.{counted-call, looked-call, switched-call}
+use Rattle.image.proofs.Exactly.{counted_call, looked_call, switched_call}
 
 sized : (xs ys : List ℕ) → length ys ≡ length xs → blocks_in ys ≡ blocks_in xs
 sized xs ys e = ap (λ n. n / 4160) e
 
 module _ (v w : View) (whole : Whole v.bytes) where
-  pub reads-rules : (p : ℕ) (buf after : List ℕ) (r : Result Note Fault)
+  pub reads_rules : (p : ℕ) (buf after : List ℕ) (r : Result Note Fault)
       → Looked (read_refusal (chip_means v) p (length buf)) (λ note. reads (page_in v.bytes p) ≡ held note after) (after ≡ buf) r
       → Reads (chip_means v) p buf r after (chip_means v)
-  reads-rules p buf after r h =
-      looked-call blocks_in page_in sized _ (chip_fault p PowerOff) v (Halted (chip_means v) (page_in v.bytes)) _ (after ≡ buf) r
+  reads_rules p buf after r h =
+      looked_call blocks_in page_in sized _ (chip_fault p PowerOff) v (Halted (chip_means v) (page_in v.bytes)) _ (after ≡ buf) r
       (λ e. (in_order_met v.on _ (eqb (length buf) 512) (ltb p (page_count (chip_means v))) (chip_fault p) (read_at p (reads (page_in v.bytes p))) e).0) h
 
-  pub programs-rules : (p : ℕ) (note : Note) (bytes : List ℕ) (r : Result (Unit {0}) Fault)
+  pub programs_rules : (p : ℕ) (note : Note) (bytes : List ℕ) (r : Result (Unit {0}) Fault)
       → Counted (program_refusal (chip_means v) p (length bytes)) (chip_fault p PowerOff) v (Framed v.bytes p note bytes) r w
       → Programs (chip_means v) p note bytes r (chip_means w)
-  programs-rules p note bytes r h =
-      counted-call blocks_in page_in sized _ _ v w (Framed v.bytes p note bytes) (Served (programmed (chip_means v) p note bytes)) (Halted (chip_means v) (programmed (chip_means v) p note bytes)) r
-      (λ e. (met e).0) (λ e f len q. inl (framed-pages v.bytes w.bytes whole len p note bytes (ltb-true p (8 * blocks_in v.bytes) (met e).2) f q)) (λ q. inl refl) h
+  programs_rules p note bytes r h =
+      counted_call blocks_in page_in sized _ _ v w (Framed v.bytes p note bytes) (Served (programmed (chip_means v) p note bytes)) (Halted (chip_means v) (programmed (chip_means v) p note bytes)) r
+      (λ e. (met e).0) (λ e f len q. inl (framed_pages v.bytes w.bytes whole len p note bytes (ltb-true p (8 * blocks_in v.bytes) (met e).2) f q)) (λ q. inl refl) h
     where
       met : program_refusal (chip_means v) p (length bytes) ≡ None → (v.on ≡ true) × (eqb (length bytes) 512 ≡ true) × (ltb p (8 * blocks_in v.bytes) ≡ true) × (program_at p (page_in v.bytes p) ≡ None)
       met e = in_order_met v.on (chip_fault p PowerOff) (eqb (length bytes) 512) (ltb p (8 * blocks_in v.bytes)) (chip_fault p) (program_at p (page_in v.bytes p)) e
 
-  pub erases-rules : (b : ℕ) (r : Result (Unit {0}) Fault)
+  pub erases_rules : (b : ℕ) (r : Result (Unit {0}) Fault)
       → Counted (erase_refusal (chip_means v) b) (chip_fault b PowerOff) v (Restated v.bytes (erasing v.bytes b)) r w
       → Erases (chip_means v) b r (chip_means w)
-  erases-rules b r h =
-      counted-call blocks_in page_in sized _ _ v w (Restated v.bytes (erasing v.bytes b)) (Served (erased_block (chip_means v) b)) (Halted (chip_means v) (erased_block (chip_means v) b)) r
+  erases_rules b r h =
+      counted_call blocks_in page_in sized _ _ v w (Restated v.bytes (erasing v.bytes b)) (Served (erased_block (chip_means v) b)) (Halted (chip_means v) (erased_block (chip_means v) b)) r
       (λ e. (in_order_met v.on (chip_fault b PowerOff) true (ltb b (blocks_in v.bytes)) (chip_fault b) (cond (unsettled_in (page_in v.bytes) b (8 * blocks_in v.bytes)) (Some (chip_fault b Unsettled)) None) e).0)
       (λ e f len q. inl (erased_pages v.bytes w.bytes whole len b f q)) (λ q. inl refl) h
 
@@ -48,19 +48,19 @@ module _ (v w : View) (whole : Whole v.bytes) where
   on_if true f h = refl
   on_if false f h = grind arith
 
-  pub syncs-rules : (r : Result (Unit {0}) Fault)
+  pub syncs_rules : (r : Result (Unit {0}) Fault)
       → Counted (sync_refusal (chip_means v)) (chip_fault 0 PowerOff) v (Restated v.bytes (settling v.bytes)) r w
       → Syncs (chip_means v) r (chip_means w)
-  syncs-rules r h =
-      counted-call blocks_in page_in sized _ _ v w (Restated v.bytes (settling v.bytes)) (Served (synced (chip_means v))) (Halted (chip_means v) (synced (chip_means v))) r
-      (λ e. on_if v.on (chip_fault 0 PowerOff) e) (λ e f len q. inl (settled-pages v.bytes w.bytes whole len f q)) (λ q. inl refl) h
+  syncs_rules r h =
+      counted_call blocks_in page_in sized _ _ v w (Restated v.bytes (settling v.bytes)) (Served (synced (chip_means v))) (Halted (chip_means v) (synced (chip_means v))) r
+      (λ e. on_if v.on (chip_fault 0 PowerOff) e) (λ e f len q. inl (settled_pages v.bytes w.bytes whole len f q)) (λ q. inl refl) h
 
-  pub powers-rules : Switched v (Restated v.bytes (cutting v.bytes)) w → Powers (chip_means v) (Ok tt) (chip_means w)
-  powers-rules h = (
+  pub powers_rules : Switched v (Restated v.bytes (cutting v.bytes)) w → Powers (chip_means v) (Ok tt) (chip_means w)
+  powers_rules h = (
     refl,
     tt,
-    switched-call blocks_in page_in sized v w (Restated v.bytes (cutting v.bytes)) (λ q. Cut Tears (page_in v.bytes q))
-        (λ f len q. cut-pages v.bytes w.bytes whole len f q) h,
+    switched_call blocks_in page_in sized v w (Restated v.bytes (cutting v.bytes)) (λ q. Cut Tears (page_in v.bytes q))
+        (λ f len q. cut_pages v.bytes w.bytes whole len f q) h,
   )
 
 -- what an erase answers, by the look at the block's pages

@@ -10,10 +10,10 @@ use Rattle.device.specs.Disks.{Never, BlockReads, block_read_refusal, BlockWrite
 use Rattle.device.proofs.Settling.{in_order_met}
 use Rattle.device.proofs.Diskwise.{write_settled}
 use Rattle.disk_frames.specs.Frames.{blocks_in, block_in, written_frame, settled_frame, cut_frame, ChangesOne, ChangesAll}
-use Rattle.disk_frames.proofs.Blockwise.{written-blocks, blocks_settled, cut_blocks}
+use Rattle.disk_frames.proofs.Blockwise.{written_blocks, blocks_settled, cut_blocks}
 use Rattle.image.specs.Exact.{View, Counted, Looked, Switched}
 use Rattle.image.specs.OfDisk.{disk_means, disk_layer, disk_offline, disk_refuses}
-use Rattle.image.proofs.Exactly.{counted-call, looked-call, switched-call}
+use Rattle.image.proofs.Exactly.{counted_call, looked_call, switched_call}
 
 sized : (xs ys : List ℕ) → length ys ≡ length xs → blocks_in ys ≡ blocks_in xs
 sized xs ys e = ap (λ n. n / 1026) e
@@ -23,20 +23,20 @@ on_if true f h = refl
 on_if false f h = grind arith
 
 module _ (v w : View) where
-  pub block-reads-rules : (b : ℕ) (buf after : List ℕ) (r : Result (Unit {0}) Fault)
+  pub block_reads_rules : (b : ℕ) (buf after : List ℕ) (r : Result (Unit {0}) Fault)
       → Looked (block_read_refusal disk_layer disk_offline (disk_means v) b (length buf)) (λ _. after ≡ reads (block_in v.bytes b)) (after ≡ buf) r
       → BlockReads disk_layer disk_offline disk_offline (disk_means v) b buf r after (disk_means v)
-  block-reads-rules b buf after r h =
-      looked-call blocks_in block_in sized _ (disk_refuses b PowerOff) v (Halted (disk_means v) (block_in v.bytes)) (λ _. after ≡ reads (block_in v.bytes b)) (after ≡ buf) r
+  block_reads_rules b buf after r h =
+      looked_call blocks_in block_in sized _ (disk_refuses b PowerOff) v (Halted (disk_means v) (block_in v.bytes)) (λ _. after ≡ reads (block_in v.bytes b)) (after ≡ buf) r
       (λ e. (in_order_met v.on (disk_refuses b PowerOff) (eqb (length buf) 512) (ltb b (blocks_in v.bytes)) (disk_refuses b) None e).0) h
 
-  pub block-writes-rules : (b : ℕ) (bytes : List ℕ) (r : Result (Unit {0}) Fault)
+  pub block_writes_rules : (b : ℕ) (bytes : List ℕ) (r : Result (Unit {0}) Fault)
       → Counted (block_write_refusal disk_layer disk_offline (disk_means v) b (length bytes)) (disk_refuses b PowerOff) v (ChangesOne (written_frame bytes) b v.bytes) r w
       → BlockWrites disk_layer disk_offline disk_offline (disk_means v) b bytes r (disk_means w)
-  block-writes-rules b bytes r h =
-      counted-call blocks_in block_in sized _ _ v w (ChangesOne (written_frame bytes) b v.bytes) (Served (written (disk_means v) b bytes)) (WriteHalted (disk_means v) b bytes) r
+  block_writes_rules b bytes r h =
+      counted_call blocks_in block_in sized _ _ v w (ChangesOne (written_frame bytes) b v.bytes) (Served (written (disk_means v) b bytes)) (WriteHalted (disk_means v) b bytes) r
       (λ e. (met e).0)
-      (λ e f len q. inl (written-blocks v.on v.bytes w.bytes bytes b (ltb-true b (blocks_in v.bytes) (met e).2) (still e) len f q))
+      (λ e f len q. inl (written_blocks v.on v.bytes w.bytes bytes b (ltb-true b (blocks_in v.bytes) (met e).2) (still e) len f q))
       (λ q. inl (inl refl)) h
     where
       met : block_write_refusal disk_layer disk_offline (disk_means v) b (length bytes) ≡ None
@@ -48,17 +48,17 @@ module _ (v w : View) where
       still : block_write_refusal disk_layer disk_offline (disk_means v) b (length bytes) ≡ None → is_unsettled (block_in v.bytes b) ≡ false
       still e = ap is_unsettled (write_settled disk_layer disk_offline (disk_means v) b (length bytes) e)
 
-  pub block-syncs-rules : (r : Result (Unit {0}) Fault)
+  pub block_syncs_rules : (r : Result (Unit {0}) Fault)
       → Counted (block_sync_refusal disk_offline (disk_means v)) (disk_refuses 0 PowerOff) v (ChangesAll settled_frame v.bytes) r w
       → BlockSyncs disk_offline disk_offline (disk_means v) r (disk_means w)
-  block-syncs-rules r h =
-      counted-call blocks_in block_in sized _ _ v w (ChangesAll settled_frame v.bytes) (Served (synced (disk_means v))) (Halted (disk_means v) (synced (disk_means v))) r
+  block_syncs_rules r h =
+      counted_call blocks_in block_in sized _ _ v w (ChangesAll settled_frame v.bytes) (Served (synced (disk_means v))) (Halted (disk_means v) (synced (disk_means v))) r
       (λ e. on_if v.on (disk_refuses 0 PowerOff) e) (λ e f len q. inl (blocks_settled v.bytes w.bytes len f q)) (λ q. inl refl) h
 
-  pub block-powers-rules : Switched v (ChangesAll cut_frame v.bytes) w → BlockPowers disk_offline (disk_means v) (Ok tt) (disk_means w)
-  block-powers-rules h = (
+  pub block_powers_rules : Switched v (ChangesAll cut_frame v.bytes) w → BlockPowers disk_offline (disk_means v) (Ok tt) (disk_means w)
+  block_powers_rules h = (
     refl,
     tt,
-    switched-call blocks_in block_in sized v w (ChangesAll cut_frame v.bytes) (λ q. Cut Never (block_in v.bytes q))
+    switched_call blocks_in block_in sized v w (ChangesAll cut_frame v.bytes) (λ q. Cut Never (block_in v.bytes q))
         (λ f len q. cut_blocks v.bytes w.bytes len f q) h,
   )

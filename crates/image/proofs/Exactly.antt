@@ -20,23 +20,23 @@ module _ {S : Type 0} (size : List ℕ → ℕ) (cell : List ℕ → ℕ → Cel
   means v = record { on = v.on; size = size v.bytes; cell = cell v.bytes }
 
   module _ (refusal : Option Fault) (lost : Fault) (v w : View) (changed : List ℕ → Type 0) (served halted : ℕ → Cell S → Type 0) where
-    pub counted-call : (r : Result (Unit {0}) Fault) → (refusal ≡ None → v.on ≡ true)
+    pub counted_call : (r : Result (Unit {0}) Fault) → (refusal ≡ None → v.on ≡ true)
         → (refusal ≡ None → changed w.bytes → length w.bytes ≡ length v.bytes → (q : ℕ) → served q (cell w.bytes q))
         → ((q : ℕ) → halted q (cell v.bytes q))
         → Counted refusal lost v changed r w → Call refusal lost (means v) served halted (λ _. Unit {0}) (Unit {0}) r (means w)
-    counted-call (Ok x) on each kept (e, _, c, len, is) =
+    counted_call (Ok x) on each kept (e, _, c, len, is) =
         (e, tt, record { power = ap (λ z. z.on) is ∙ on e; size = sized v.bytes w.bytes len; cells = each e c len })
-    counted-call (Err f) on each kept (inl (e, is)) = (tt, inl (e, ap means is))
-    counted-call (Err f) on each kept (inr (e, _, l, is)) =
+    counted_call (Err f) on each kept (inl (e, is)) = (tt, inl (e, ap means is))
+    counted_call (Err f) on each kept (inr (e, _, l, is)) =
         (tt, inr (e, l, record { power = ap (λ z. z.on) is; size = ap (λ z. size z.bytes) is; cells = λ q. rw (ap (λ z. z.bytes) is) (kept q) }))
 
-  pub looked-call : {T : Type 0} (refusal : Option Fault) (lost : Fault) (v : View) (halted : ℕ → Cell S → Type 0) (ok : T → Type 0) (same : Type 0) (r : Result T Fault)
+  pub looked_call : {T : Type 0} (refusal : Option Fault) (lost : Fault) (v : View) (halted : ℕ → Cell S → Type 0) (ok : T → Type 0) (same : Type 0) (r : Result T Fault)
       → (refusal ≡ None → v.on ≡ true) → Looked refusal ok same r → Call refusal lost (means v) (Served (cell v.bytes)) halted ok same r (means v)
-  looked-call refusal lost v halted ok same (Ok x) on (e, o) = (e, o, record { power = on e; size = refl; cells = λ q. inl refl })
-  looked-call refusal lost v halted ok same (Err f) on (e, s) = (s, inl (e, refl))
+  looked_call refusal lost v halted ok same (Ok x) on (e, o) = (e, o, record { power = on e; size = refl; cells = λ q. inl refl })
+  looked_call refusal lost v halted ok same (Err f) on (e, s) = (s, inl (e, refl))
 
-  pub switched-call : (v w : View) (changed : List ℕ → Type 0) (each : ℕ → Cell S → Type 0)
+  pub switched_call : (v w : View) (changed : List ℕ → Type 0) (each : ℕ → Cell S → Type 0)
       → (changed w.bytes → length w.bytes ≡ length v.bytes → (q : ℕ) → each q (cell w.bytes q))
       → Switched v changed w → Becomes true (means v) each (means w)
-  switched-call v w changed each h (c, len, is) =
+  switched_call v w changed each h (c, len, is) =
       record { power = ap (λ z. z.on) is; size = sized v.bytes w.bytes len; cells = h c len }

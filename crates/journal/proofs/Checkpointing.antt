@@ -46,22 +46,22 @@ module _ (D : ℕ) (small : D ≤ 448) (a : Area) (t : Table) where
   abbrev first : ℕ
   first = first_page (other_area a)
 
-  pub entry-there : (pages : ℕ → State) (j : ℕ) → j < entry_pages D → with_entries D a t pages (entry_page_at (other_area a) j) ≡ entry_page t j
-  entry-there pages j l =
+  pub entry_there : (pages : ℕ → State) (j : ℕ) → j < entry_pages D → with_entries D a t pages (entry_page_at (other_area a) j) ≡ entry_page t j
+  entry_there pages j l =
       let e : first + j - first ≡ j = omega arith in
       rw (inside_area (other_area a) j (first + j) (omega arith) refl, e, lt-ltb j E l)
 
-  pub blank-there : (pages : ℕ → State) (k p : ℕ) → E ≤ k → k < 32 → p ≡ first + k → with_entries D a t pages p ≡ blank
-  blank-there pages k p low high e = rw (inside_area (other_area a) k p high e, le-ltb (p - first) E (omega arith))
+  pub blank_there : (pages : ℕ → State) (k p : ℕ) → E ≤ k → k < 32 → p ≡ first + k → with_entries D a t pages p ≡ blank
+  blank_there pages k p low high e = rw (inside_area (other_area a) k p high e, le-ltb (p - first) E (omega arith))
 
-  pub outside-there : (pages : ℕ → State) (p : ℕ) → in_area (other_area a) p ≡ false → with_entries D a t pages p ≡ pages p
-  outside-there pages p out = rw out
+  pub outside_there : (pages : ℕ → State) (p : ℕ) → in_area (other_area a) p ≡ false → with_entries D a t pages p ≡ pages p
+  outside_there pages p out = rw out
 
-  pub trailer-elsewhere : (n : ℕ) (pages : ℕ → State) (p : ℕ) → (p ≡ trailer_at D (other_area a) → ⊥) → with_trailer D a n pages p ≡ pages p
-  trailer-elsewhere n pages p ne = rw (ne_eqb p (trailer_at D (other_area a)) ne)
+  pub trailer_elsewhere : (n : ℕ) (pages : ℕ → State) (p : ℕ) → (p ≡ trailer_at D (other_area a) → ⊥) → with_trailer D a n pages p ≡ pages p
+  trailer_elsewhere n pages p ne = rw (ne_eqb p (trailer_at D (other_area a)) ne)
 
-  trailer-inside : (p : ℕ) → p ≡ trailer_at D (other_area a) → in_area (other_area a) p ≡ true
-  trailer-inside p e = inside_area (other_area a) E p (omega arith) e
+  trailer_inside : (p : ℕ) → p ≡ trailer_at D (other_area a) → in_area (other_area a) p ≡ true
+  trailer_inside p e = inside_area (other_area a) E p (omega arith) e
 
   -- both together make the checkpoint
   pub written : (n : ℕ) (pages q₁ q₂ : ℕ → State) (p : ℕ) → (in_area (other_area a) p ≡ false → q₁ p ≡ pages p) → q₂ p ≡ with_entries D a t q₁ p
@@ -69,8 +69,8 @@ module _ (D : ℕ) (small : D ≤ 448) (a : Area) (t : Table) where
   written n pages q₁ q₂ p out e =
       ⊎_elim
       (λ (here : p ≡ trailer_at D (other_area a)).
-      rw (eq-eqb p (trailer_at D (other_area a)) here, trailer-inside p here, le-ltb (p - first) E (omega arith), eq-eqb (p - first) E (omega arith)))
-      (λ (ne : p ≡ trailer_at D (other_area a) → ⊥). trailer-elsewhere n q₂ p ne ∙ e ∙ rest ne)
+      rw (eq-eqb p (trailer_at D (other_area a)) here, trailer_inside p here, le-ltb (p - first) E (omega arith), eq-eqb (p - first) E (omega arith)))
+      (λ (ne : p ≡ trailer_at D (other_area a) → ⊥). trailer_elsewhere n q₂ p ne ∙ e ∙ rest ne)
       (cases_eq p (trailer_at D (other_area a)))
     where
       rest : (p ≡ trailer_at D (other_area a) → ⊥) → with_entries D a t q₁ p ≡ checkpoint_pages D (other_area a) n t pages p
@@ -141,26 +141,26 @@ beside_then a m n k x y p out = y p out ∙ x p out
 
 -- The other area once its entries are in, and once its trailer is in too.
 module _ (D : ℕ) (small : D ≤ 448) (a : Area) (t : Table) (m₁ m₂ : Pages) (two : Lands m₁ (with_entries D a t (shown m₁)) m₂) where
-  pub entries-settled : SettledEntries D m₂ (other_area a) t
-  entries-settled j l = two.cells (entry_page_at (other_area a) j) ∙ ap settled (entry-there D small a t (shown m₁) j l)
+  pub entries_settled : SettledEntries D m₂ (other_area a) t
+  entries_settled j l = two.cells (entry_page_at (other_area a) j) ∙ ap settled (entry_there D small a t (shown m₁) j l)
 
-  pub log-blank : BlankFrom D m₂ (other_area a) 0
-  log-blank k _ l =
+  pub log_blank : BlankFrom D m₂ (other_area a) 0
+  log_blank k _ l =
       two.cells (log_page_at D (other_area a) k)
-      ∙ ap settled (blank-there D small a t (shown m₁) (entry_pages D + 1 + k) (log_page_at D (other_area a) k) (omega arith) (omega arith) (omega arith))
+      ∙ ap settled (blank_there D small a t (shown m₁) (entry_pages D + 1 + k) (log_page_at D (other_area a) k) (omega arith) (omega arith) (omega arith))
 
   module _ (n : ℕ) (m₃ : Pages) (three : Lands m₂ (with_trailer D a n (shown m₂)) m₃) where
-    pub elsewhere-closed : (p : ℕ) → (p ≡ trailer_at D (other_area a) → ⊥) → m₃.cell p ≡ settled (shown m₂ p)
-    elsewhere-closed p ne = three.cells p ∙ ap settled (trailer-elsewhere D small a t n (shown m₂) p ne)
+    pub elsewhere_closed : (p : ℕ) → (p ≡ trailer_at D (other_area a) → ⊥) → m₃.cell p ≡ settled (shown m₂ p)
+    elsewhere_closed p ne = three.cells p ∙ ap settled (trailer_elsewhere D small a t n (shown m₂) p ne)
 
-    pub entries-closed : SettledEntries D m₃ (other_area a) t
-    entries-closed j l = elsewhere-closed (entry_page_at (other_area a) j) (λ e. omega arith) ∙ ap (λ c. settled (reads c)) (entries-settled j l)
+    pub entries_closed : SettledEntries D m₃ (other_area a) t
+    entries_closed j l = elsewhere_closed (entry_page_at (other_area a) j) (λ e. omega arith) ∙ ap (λ c. settled (reads c)) (entries_settled j l)
 
-    pub log-closed : BlankFrom D m₃ (other_area a) 0
-    log-closed k low l = elsewhere-closed (log_page_at D (other_area a) k) (λ e. omega arith) ∙ ap (λ c. settled (reads c)) (log-blank k low l)
+    pub log_closed : BlankFrom D m₃ (other_area a) 0
+    log_closed k low l = elsewhere_closed (log_page_at D (other_area a) k) (λ e. omega arith) ∙ ap (λ c. settled (reads c)) (log_blank k low l)
 
-    pub trailer-closed : m₃.cell (trailer_at D (other_area a)) ≡ settled (trailer_page (other_area a) D n)
-    trailer-closed =
+    pub trailer_closed : m₃.cell (trailer_at D (other_area a)) ≡ settled (trailer_page (other_area a) D n)
+    trailer_closed =
         three.cells (trailer_at D (other_area a)) ∙ ap settled (rw (eq-eqb (trailer_at D (other_area a)) (trailer_at D (other_area a)) refl))
 
 -- A checkpoint of a ready chip with everything settled, part by part: cleared, filled, closed.
@@ -170,66 +170,66 @@ module _ (D : ℕ) (m : Pages) (v : Noted) (still : AllSettled m) where
   CutShort m' f = Fails m f m' × ((t : Table) → Ready D m v t → Left D m' (Either (point t (shown m)) (point v.table (shown m))))
 
   -- the data pages are settled as they were
-  data-kept : (m' : Pages) → Beside v.area m m' → (i : ℕ) → m'.cell (data_page_at i) ≡ settled (shown m (data_page_at i))
-  data-kept m' beside i = beside (data_page_at i) (data_outside (other_area v.area) i) ∙ settled_cell (m.cell (data_page_at i)) (still (data_page_at i))
+  data_kept : (m' : Pages) → Beside v.area m m' → (i : ℕ) → m'.cell (data_page_at i) ≡ settled (shown m (data_page_at i))
+  data_kept m' beside i = beside (data_page_at i) (data_outside (other_area v.area) i) ∙ settled_cell (m.cell (data_page_at i)) (still (data_page_at i))
 
   -- power fails while the table that was committed is the one that the chip holds
-  old-left : (m' : Pages) → Beside v.area m m' → (t : Table) → Holds D m' v.area v.number t → Left D m' (Either (point t (shown m)) (point v.table (shown m)))
-  old-left m' beside t h =
-      left_held D m' v.area v.number t (shown m) (Either (point t (shown m)) (point v.table (shown m))) (inl refl) h (λ i _ _. data-kept m' beside i)
+  old_left : (m' : Pages) → Beside v.area m m' → (t : Table) → Holds D m' v.area v.number t → Left D m' (Either (point t (shown m)) (point v.table (shown m)))
+  old_left m' beside t h =
+      left_held D m' v.area v.number t (shown m) (Either (point t (shown m)) (point v.table (shown m))) (inl refl) h (λ i _ _. data_kept m' beside i)
 
   module _ (m₁ : Pages) (beside₁ : Beside v.area m m₁) (held : StillHolds v.area m m₁) where
-    still-held : (t : Table) → Ready D m v t → Holds D m₁ v.area v.number t
-    still-held t ready = held D v.number t (few_pages D m v t ready) ready.holds
+    still_held : (t : Table) → Ready D m v t → Holds D m₁ v.area v.number t
+    still_held t ready = held D v.number t (few_pages D m v t ready) ready.holds
 
-    pub clear-failed : (f : Fault) → Fails m f m₁ → CutShort m₁ f
-    clear-failed f fails = (fails, λ t ready. old-left m₁ beside₁ t (still-held t ready))
+    pub clear_failed : (f : Fault) → Fails m f m₁ → CutShort m₁ f
+    clear_failed f fails = (fails, λ t ready. old_left m₁ beside₁ t (still_held t ready))
 
     module _ (one : Lands m (cleared v.area (shown m)) m₁) (m₂ : Pages) (beside₂ : Beside v.area m₁ m₂)
         (held₂ : (n : ℕ) (t : Table) → Holds D m₁ v.area n t → Holds D m₂ v.area n t) where
       beside : Beside v.area m m₂
       beside = beside_then v.area m m₁ m₂ beside₁ beside₂
 
-      pub fill-failed : (f : Fault) → Fails m₁ f m₂ → CutShort m₂ f
-      fill-failed f fails =
-          (fails_then m m₁ m₂ f one.size fails, λ t ready. old-left m₂ beside t (held₂ v.number t (still-held t ready)))
+      pub fill_failed : (f : Fault) → Fails m₁ f m₂ → CutShort m₂ f
+      fill_failed f fails =
+          (fails_then m m₁ m₂ f one.size fails, λ t ready. old_left m₂ beside t (held₂ v.number t (still_held t ready)))
 
       module _ (two : Lands m₁ (with_entries D v.area v.table (shown m₁)) m₂) (n : ℕ) (is : n ≡ next_number v.number) (m₃ : Pages)
           (beside₃ : Beside v.area m₂ m₃) where
-        all-beside : Beside v.area m m₃
-        all-beside = beside_then v.area m m₂ m₃ beside beside₃
+        all_beside : Beside v.area m m₃
+        all_beside = beside_then v.area m m₂ m₃ beside beside₃
 
-        data-backed : (t : Table) → Ready D m v t → SettledBacked D m₂ v.table
-        data-backed t ready i l marked = let (bytes, e) = ready.backed i l marked in (bytes, data-kept m₂ beside i ∙ ap settled e)
+        data_backed : (t : Table) → Ready D m v t → SettledBacked D m₂ v.table
+        data_backed t ready i l marked = let (bytes, e) = ready.backed i l marked in (bytes, data_kept m₂ beside i ∙ ap settled e)
 
-        pub close-failed : (f : Fault) → Fails m₂ f m₃ → TakesOver D v.area n (Err f) m₂ m₃ → CutShort m₃ f
-        close-failed f fails over = (
+        pub close_failed : (f : Fault) → Fails m₂ f m₃ → TakesOver D v.area n (Err f) m₂ m₃ → CutShort m₃ f
+        close_failed f fails over = (
           fails_then m m₁ m₃ f one.size (fails_then m₁ m₂ m₃ f two.size fails),
           λ t ready.
               let few = few_pages D m v t ready in
               left_either D m₃ v.area v.number t (other_area v.area) n v.table (shown m)
-              (over v.number t v.table (held₂ v.number t (still-held t ready)) ready.small is ready.long ready.proper
-              (entries-settled D few v.area v.table m₁ m₂ two) (log-blank D few v.area v.table m₁ m₂ two) (data-backed t ready))
-              (data-kept m₃ all-beside),
+              (over v.number t v.table (held₂ v.number t (still_held t ready)) ready.small is ready.long ready.proper
+              (entries_settled D few v.area v.table m₁ m₂ two) (log_blank D few v.area v.table m₁ m₂ two) (data_backed t ready))
+              (data_kept m₃ all_beside),
         )
 
         module _ (three : Lands m₂ (with_trailer D v.area n (shown m₂)) m₃) where
           size : m₃.size ≡ m.size
           size = three.size ∙ two.size ∙ one.size
 
-          closed-ready : TakesOver D v.area n (Ok tt) m₂ m₃ → (t : Table) → Ready D m v t → Ready D m₃ (checkpointed v) v.table
-          closed-ready over t ready =
+          closed_ready : TakesOver D v.area n (Ok tt) m₂ m₃ → (t : Table) → Ready D m v t → Ready D m₃ (checkpointed v) v.table
+          closed_ready over t ready =
               let few = few_pages D m v t ready in
               let holds : Holds D m₃ (other_area v.area) n v.table =
-              over v.number t v.table (held₂ v.number t (still-held t ready)) ready.small is ready.long ready.proper
-              (entries-settled D few v.area v.table m₁ m₂ two) (log-blank D few v.area v.table m₁ m₂ two) (data-backed t ready) in
+              over v.number t v.table (held₂ v.number t (still_held t ready)) ready.small is ready.long ready.proper
+              (entries_settled D few v.area v.table m₁ m₂ two) (log_blank D few v.area v.table m₁ m₂ two) (data_backed t ready) in
               fresh_ready D m₃ (other_area v.area) (next_number v.number) v.table three.power (omega (arith, size, ready.enough)) (omega (arith, size, ready.few))
               (ready.large ∙ ap data_pages (sym size)) (subst (λ z. Holds D m₃ (other_area v.area) z v.table) is holds)
-              (omega arith) ready.long ready.proper (log-closed D few v.area v.table m₁ m₂ two n m₃ three) (lands_settled m₂ _ m₃ three)
-              (λ i l marked. let (bytes, e) = ready.backed i l marked in (bytes, ap reads (data-kept m₃ all-beside i) ∙ e))
+              (omega arith) ready.long ready.proper (log_closed D few v.area v.table m₁ m₂ two n m₃ three) (lands_settled m₂ _ m₃ three)
+              (λ i l marked. let (bytes, e) = ready.backed i l marked in (bytes, ap reads (data_kept m₃ all_beside i) ∙ e))
 
-          closed-lands : D ≤ 448 → Lands m (checkpoint_pages D (other_area v.area) (next_number v.number) v.table (shown m)) m₃
-          closed-lands few = record {
+          closed_lands : D ≤ 448 → Lands m (checkpoint_pages D (other_area v.area) (next_number v.number) v.table (shown m)) m₃
+          closed_lands few = record {
             power = three.power;
             size = size;
             cells = λ p.
@@ -240,7 +240,7 @@ module _ (D : ℕ) (m : Pages) (v : Noted) (still : AllSettled m) where
 
           pub closed : D ≤ 448 → TakesOver D v.area n (Ok tt) m₂ m₃ → (v' : Noted) → v' ≡ checkpointed v
               → CommitsAs D m v (checkpoint_pages D (other_area v.area) (next_number v.number) v.table (shown m)) (checkpointed v) (Ok tt) m₃ v'
-          closed few over v' e = (closed-lands few, e, λ t ready. subst (λ z. Ready D m₃ z v.table) (sym e) (closed-ready over t ready))
+          closed few over v' e = (closed_lands few, e, λ t ready. subst (λ z. Ready D m₃ z v.table) (sym e) (closed_ready over t ready))
 
 -- the journal after a checkpoint
 pub noted_closed : (v : Noted) (area : Area) → area ≡ other_area v.area

@@ -11,7 +11,7 @@ use Rattle.layout.specs.declared.areas.Area.{Area}
 use Rattle.layout.specs.declared.areas.Area.TheVariants.{One, Two}
 use Rattle.layout.specs.Geometry.{first_page, other_area}
 use Rattle.recovery.specs.Looking.{shown}
-use Rattle.crash.proofs.Cuts.{safe-steps}
+use Rattle.crash.proofs.Cuts.{safe_steps}
 use Rattle.journal.specs.Notes.{in_area}
 use Rattle.journal.specs.Steps.{AllSettled, Landing, Beside, StillHolds, cleared}
 use Rattle.journal.proofs.Allowed.{erase_allowed, erase_fails, sync_fails, erase_beside, sync_beside, sync_settles}
@@ -67,18 +67,18 @@ module _ (active : Area) (m : Pages) (all : AllSettled m) (k : ℕ) (n : Pages) 
   first = first_block (other_area active)
 
   -- a page that is as it was is settled
-  as-was : (p : ℕ) → (first ≤ block_of p → block_of p < first + k → ⊥) → is_unsettled (n.cell p) ≡ false
-  as-was p out = ap is_unsettled (c.rest p out) ∙ all p
+  as_was : (p : ℕ) → (first ≤ block_of p → block_of p < first + k → ⊥) → is_unsettled (n.cell p) ≡ false
+  as_was p out = ap is_unsettled (c.rest p out) ∙ all p
 
   module _ (few : k < 4) (large : 12 ≤ m.size) (b : ℕ) (e : b ≡ first + k) (n' : Pages) where
-    block-free : erase_refusal n b ≡ None
-    block-free = erase_allowed n b c.power (omega (arith, blocks_below (other_area active), c.size)) (λ q i. as-was q (λ x y. omega arith))
+    block_free : erase_refusal n b ≡ None
+    block_free = erase_allowed n b c.power (omega (arith, blocks_below (other_area active), c.size)) (λ q i. as_was q (λ x y. omega arith))
 
-    step-held : (r : Result (Unit {0}) Fault) → Erases n b r n' → StillHolds active m n'
-    step-held r call D num t small h = (safe-steps D small).other_block n n' active num t b r (c.held D num t small h) (omega arith) (omega arith) call
+    step_held : (r : Result (Unit {0}) Fault) → Erases n b r n' → StillHolds active m n'
+    step_held r call D num t small h = (safe_steps D small).other_block n n' active num t b r (c.held D num t small h) (omega arith) (omega arith) call
 
-    pub clearing-more : Erases n b (Ok tt) n' → Clearing active m (k + 1) n'
-    clearing-more call = record {
+    pub clearing_more : Erases n b (Ok tt) n' → Clearing active m (k + 1) n'
+    clearing_more call = record {
       power = call.2.power;
       size = call.2.size ∙ c.size;
       gone = λ p x y. ⊎_elim
@@ -87,47 +87,47 @@ module _ (active : Area) (m : Pages) (all : AllSettled m) (k : ℕ) (n : Pages) 
           (cases_eq (block_of p) b);
       rest = λ p out.
           let before : first ≤ block_of p → block_of p < first + k → ⊥ = λ x y. out x (omega arith) in
-          erase_beside n n' b (Ok tt) call p (λ i. out (omega arith) (omega arith)) (as-was p before) ∙ c.rest p before;
-      held = step-held (Ok tt) call;
+          erase_beside n n' b (Ok tt) call p (λ i. out (omega arith) (omega arith)) (as_was p before) ∙ c.rest p before;
+      held = step_held (Ok tt) call;
     }
 
-    pub clearing-fails : (f : Fault) → Erases n b (Err f) n' → Cleared active m (Err f) n'
-    clearing-fails f call =
-        let lost = erase_fails n n' b f block-free call in
+    pub clearing_fails : (f : Fault) → Erases n b (Err f) n' → Cleared active m (Err f) n'
+    clearing_fails f call =
+        let lost = erase_fails n n' b f block_free call in
         record {
           done = record { lost = lost.lost; size = lost.size ∙ c.size };
           others = λ p out.
               let away : first ≤ block_of p → block_of p < first + 4 → ⊥ = blocks_outside (other_area active) p out in
-              erase_beside n n' b (Err f) call p (λ i. away (omega arith) (omega arith)) (as-was p (λ x y. away x (omega arith))) ∙ c.rest p (λ x y. away x (omega arith));
-          held = step-held (Err f) call;
+              erase_beside n n' b (Err f) call p (λ i. away (omega arith) (omega arith)) (as_was p (λ x y. away x (omega arith))) ∙ c.rest p (λ x y. away x (omega arith));
+          held = step_held (Err f) call;
         }
 
 -- the sync behind the four erases
 module _ (active : Area) (m : Pages) (all : AllSettled m) (n : Pages) (c : Clearing active m 4 n) (n' : Pages) where
-  sync-held : (r : Result (Unit {0}) Fault) → Syncs n r n' → StillHolds active m n'
-  sync-held r call D num t small h = (safe-steps D small).syncing n n' active num t r (c.held D num t small h) call
+  sync_held : (r : Result (Unit {0}) Fault) → Syncs n r n' → StillHolds active m n'
+  sync_held r call D num t small h = (safe_steps D small).syncing n n' active num t r (c.held D num t small h) call
 
-  sync-others : (r : Result (Unit {0}) Fault) → Syncs n r n' → Beside active m n'
-  sync-others r call p out =
+  sync_others : (r : Result (Unit {0}) Fault) → Syncs n r n' → Beside active m n'
+  sync_others r call p out =
       let away = blocks_outside (other_area active) p out in
-      sync_beside n n' r call p (as-was active m all 4 n c p away) ∙ c.rest p away
+      sync_beside n n' r call p (as_was active m all 4 n c p away) ∙ c.rest p away
 
-  reads-cleared : (p : ℕ) → shown n p ≡ cleared active (shown m) p
-  reads-cleared p = ⊎_elim
+  reads_cleared : (p : ℕ) → shown n p ≡ cleared active (shown m) p
+  reads_cleared p = ⊎_elim
       (λ (i : in_area (other_area active) p ≡ true). let k = blocks_inside (other_area active) p i in rw i (c.gone p k.0 k.1))
       (λ (o : in_area (other_area active) p ≡ false). rw o (ap reads (c.rest p (blocks_outside (other_area active) p o))))
       (cases_Bool (in_area (other_area active) p))
 
-  pub clearing-ends : (r : Result (Unit {0}) Fault) → Syncs n r n' → Cleared active m r n'
-  clearing-ends (Ok tt) call = record {
-    done = record { power = call.2.power; size = call.2.size ∙ c.size; cells = λ p. sync_settles n n' call p ∙ ap settled (reads-cleared p) };
-    others = sync-others (Ok tt) call;
-    held = sync-held (Ok tt) call;
+  pub clearing_ends : (r : Result (Unit {0}) Fault) → Syncs n r n' → Cleared active m r n'
+  clearing_ends (Ok tt) call = record {
+    done = record { power = call.2.power; size = call.2.size ∙ c.size; cells = λ p. sync_settles n n' call p ∙ ap settled (reads_cleared p) };
+    others = sync_others (Ok tt) call;
+    held = sync_held (Ok tt) call;
   }
-  clearing-ends (Err f) call =
+  clearing_ends (Err f) call =
       let lost = sync_fails n n' f c.power call in
       record {
         done = record { lost = lost.lost; size = lost.size ∙ c.size };
-        others = sync-others (Err f) call;
-        held = sync-held (Err f) call;
+        others = sync_others (Err f) call;
+        held = sync_held (Err f) call;
       }

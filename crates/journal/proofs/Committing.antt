@@ -14,7 +14,7 @@ use Rattle.table.specs.Tables.{Table, replayed}
 use Rattle.recovery.specs.Looking.{shown}
 use Rattle.recovery.specs.Recovering.{Backed}
 use Rattle.crash.specs.Crash.{SettledBacked}
-use Rattle.crash.proofs.Cuts.{safe-steps, first_small}
+use Rattle.crash.proofs.Cuts.{safe_steps, first_small}
 use Rattle.journal.specs.Notes.{Noted, logged, logged_pages, checkpoint_pages, next_number, checkpointed, committed_pages, committed}
 use Rattle.journal.specs.Points.{Left, Either, point}
 use Rattle.journal.specs.Ready.{Ready}
@@ -38,13 +38,13 @@ module _ (D : ℕ) (m : Pages) (v : Noted) (t : Table) (h : Ready D m v t) where
   pub few_pages : D ≤ 448
   few_pages = omega (arith, h.large, h.few)
 
-  pub firm-old : Firm D m t (shown m)
-  firm-old i k e = settled_reads (m.cell (data_page_at i)) (h.firm i k e)
+  pub firm_old : Firm D m t (shown m)
+  firm_old i k e = settled_reads (m.cell (data_page_at i)) (h.firm i k e)
 
   -- The sync before a commit.
 
-  pub sync-ready : (m₁ : Pages) → Syncs m (Ok tt) m₁ → Ready D m₁ v t
-  sync-ready m₁ call =
+  pub sync_ready : (m₁ : Pages) → Syncs m (Ok tt) m₁ → Ready D m₁ v t
+  sync_ready m₁ call =
       let lands = sync_lands m m₁ call in
       let flat = lands_settled m m₁ (shown m) lands in
       record {
@@ -52,7 +52,7 @@ module _ (D : ℕ) (m : Pages) (v : Noted) (t : Table) (h : Ready D m v t) where
         enough = omega (arith, lands.size, h.enough);
         few = omega (arith, lands.size, h.few);
         large = rw lands.size h.large;
-        holds = (safe-steps D few_pages).syncing m m₁ v.area v.number t (Ok tt) h.holds call;
+        holds = (safe_steps D few_pages).syncing m m₁ v.area v.number t (Ok tt) h.holds call;
         small = h.small;
         makes = h.makes;
         room = h.room;
@@ -67,81 +67,81 @@ module _ (D : ℕ) (m : Pages) (v : Noted) (t : Table) (h : Ready D m v t) where
         blanks = λ i k e. flat (data_page_at i);
       }
 
-  pub sync-left : (m₁ : Pages) (f : Fault) → Syncs m (Err f) m₁ → OldOrNew D m v t m₁
-  sync-left m₁ f call =
+  pub sync_left : (m₁ : Pages) (f : Fault) → Syncs m (Err f) m₁ → OldOrNew D m v t m₁
+  sync_left m₁ f call =
       left_first D m₁ (point t (shown m)) (point v.table (shown m))
-      (left_of_holds D m₁ v.area v.number t (shown m) ((safe-steps D few_pages).syncing m m₁ v.area v.number t (Err f) h.holds call)
-      (λ i k e. sync_stays m m₁ (Err f) (data_page_at i) (shown m (data_page_at i)) call (firm-old i k e)))
+      (left_of_holds D m₁ v.area v.number t (shown m) ((safe_steps D few_pages).syncing m m₁ v.area v.number t (Err f) h.holds call)
+      (λ i k e. sync_stays m m₁ (Err f) (data_page_at i) (shown m (data_page_at i)) call (firm_old i k e)))
 
   -- The next log page, with everything settled.
   module _ (flat : AllSettled m) (some : 0 < length v.staged) (room : v.next < log_pages D) where
     abbrev p : ℕ
     p = log_page_at D v.area v.next
 
-    log-blank : m.cell p ≡ settled blank
-    log-blank = h.ahead v.next (omega arith) room
+    log_blank : m.cell p ≡ settled blank
+    log_blank = h.ahead v.next (omega arith) room
 
-    log-low : p < 64
-    log-low = omega (arith, first_small v.area)
+    log_low : p < 64
+    log_low = omega (arith, first_small v.area)
 
-    log-inside : p < 8 * m.size
-    log-inside = omega (arith, log-low, h.enough)
+    log_inside : p < 8 * m.size
+    log_inside = omega (arith, log_low, h.enough)
 
-    proper-log : ProperLog v.staged
-    proper-log = record { some = some; few = h.room; each = h.records }
+    proper_log : ProperLog v.staged
+    proper_log = record { some = some; few = h.room; each = h.records }
 
-    backed-new : SettledBacked D m v.table
-    backed-new i k e = let (bytes, is) = h.backed i k e in (bytes, settled_as m (data_page_at i) _ (flat (data_page_at i)) is)
+    backed_new : SettledBacked D m v.table
+    backed_new i k e = let (bytes, is) = h.backed i k e in (bytes, settled_as m (data_page_at i) _ (flat (data_page_at i)) is)
 
-    data-stays : (r : Result (Unit {0}) Fault) (m₁ : Pages) → Programs m p (log_note v.staged) (log_data v.staged) r m₁ → (i : ℕ)
+    data_stays : (r : Result (Unit {0}) Fault) (m₁ : Pages) → Programs m p (log_note v.staged) (log_data v.staged) r m₁ → (i : ℕ)
         → m₁.cell (data_page_at i) ≡ settled (shown m (data_page_at i))
-    data-stays r m₁ call i =
-        program_stays m m₁ p (log_note v.staged) (log_data v.staged) r (data_page_at i) (shown m (data_page_at i)) call (λ e. omega (arith, log-low))
+    data_stays r m₁ call i =
+        program_stays m m₁ p (log_note v.staged) (log_data v.staged) r (data_page_at i) (shown m (data_page_at i)) call (λ e. omega (arith, log_low))
         (settled_reads (m.cell (data_page_at i)) (flat (data_page_at i)))
 
-    pub log-left : (r : Result (Unit {0}) Fault) (m₁ : Pages) → Programs m p (log_note v.staged) (log_data v.staged) r m₁ → OldOrNew D m v t m₁
-    log-left r m₁ call =
+    pub log_left : (r : Result (Unit {0}) Fault) (m₁ : Pages) → Programs m p (log_note v.staged) (log_data v.staged) r m₁ → OldOrNew D m v t m₁
+    log_left r m₁ call =
         left_of_either D m₁ v.area v.number t v.area v.number v.table (shown m)
-        ((safe-steps D few_pages).next_log m m₁ v.area v.number t v.table v.next v.staged r h.holds room h.ahead proper-log h.makes backed-new call)
-        (λ i k e. data-stays r m₁ call i) (λ i k e. data-stays r m₁ call i)
+        ((safe_steps D few_pages).next_log m m₁ v.area v.number t v.table v.next v.staged r h.holds room h.ahead proper_log h.makes backed_new call)
+        (λ i k e. data_stays r m₁ call i) (λ i k e. data_stays r m₁ call i)
 
-    pub log-fails : (m₁ : Pages) (f : Fault) → length (log_data v.staged) ≡ 512 → Programs m p (log_note v.staged) (log_data v.staged) (Err f) m₁ → Fails m f m₁
-    log-fails m₁ f whole call = program_lost m m₁ p (log_note v.staged) (log_data v.staged) f h.power whole log-inside log-blank call
+    pub log_fails : (m₁ : Pages) (f : Fault) → length (log_data v.staged) ≡ 512 → Programs m p (log_note v.staged) (log_data v.staged) (Err f) m₁ → Fails m f m₁
+    log_fails m₁ f whole call = program_lost m m₁ p (log_note v.staged) (log_data v.staged) f h.power whole log_inside log_blank call
 
     -- the sync behind it
     module _ (m₁ m₂ : Pages) (call : Programs m p (log_note v.staged) (log_data v.staged) (Ok tt) m₁) where
-      pub log-sync-fails : (f : Fault) → Syncs m₁ (Err f) m₂ → Fails m f m₂
-      log-sync-fails f sync = let k = sync_lost m₁ m₂ f call.2.power sync in record { lost = k.lost; size = k.size ∙ call.2.size }
+      pub log_sync_fails : (f : Fault) → Syncs m₁ (Err f) m₂ → Fails m f m₂
+      log_sync_fails f sync = let k = sync_lost m₁ m₂ f call.2.power sync in record { lost = k.lost; size = k.size ∙ call.2.size }
 
-      pub log-sync-left : (f : Fault) → Syncs m₁ (Err f) m₂ → OldOrNew D m v t m₂
-      log-sync-left f sync =
+      pub log_sync_left : (f : Fault) → Syncs m₁ (Err f) m₂ → OldOrNew D m v t m₂
+      log_sync_left f sync =
           let firm : (i : ℕ) → m₂.cell (data_page_at i) ≡ settled (shown m (data_page_at i)) =
-          λ i. sync_stays m₁ m₂ (Err f) (data_page_at i) (shown m (data_page_at i)) sync (data-stays (Ok tt) m₁ call i) in
+          λ i. sync_stays m₁ m₂ (Err f) (data_page_at i) (shown m (data_page_at i)) sync (data_stays (Ok tt) m₁ call i) in
           left_of_either D m₂ v.area v.number t v.area v.number v.table (shown m)
-          ((safe-steps D few_pages).either_syncing m₁ m₂ v.area v.number t v.area v.number v.table (Err f)
-          ((safe-steps D few_pages).next_log m m₁ v.area v.number t v.table v.next v.staged (Ok tt) h.holds room h.ahead proper-log h.makes backed-new call)
+          ((safe_steps D few_pages).either_syncing m₁ m₂ v.area v.number t v.area v.number v.table (Err f)
+          ((safe_steps D few_pages).next_log m m₁ v.area v.number t v.table v.next v.staged (Ok tt) h.holds room h.ahead proper_log h.makes backed_new call)
           sync)
           (λ i k e. firm i) (λ i k e. firm i)
 
-      pub log-lands : Syncs m₁ (Ok tt) m₂ → Lands m (logged_pages D v (shown m)) m₂
-      log-lands sync = programmed_lands m m₁ m₂ p (log_note v.staged) (log_data v.staged) call sync
+      pub log_lands : Syncs m₁ (Ok tt) m₂ → Lands m (logged_pages D v (shown m)) m₂
+      log_lands sync = programmed_lands m m₁ m₂ p (log_note v.staged) (log_data v.staged) call sync
 
-      log-away : Syncs m₁ (Ok tt) m₂ → (q : ℕ) → (q ≡ p → ⊥) → m₂.cell q ≡ settled (shown m q)
-      log-away sync q ne = (log-lands sync).cells q ∙ rw (ne_eqb q p ne)
+      log_away : Syncs m₁ (Ok tt) m₂ → (q : ℕ) → (q ≡ p → ⊥) → m₂.cell q ≡ settled (shown m q)
+      log_away sync q ne = (log_lands sync).cells q ∙ rw (ne_eqb q p ne)
 
-      data-away : Syncs m₁ (Ok tt) m₂ → (i : ℕ) → shown m₂ (data_page_at i) ≡ shown m (data_page_at i)
-      data-away sync i = ap reads (log-away sync (data_page_at i) (λ e. omega (arith, log-low)))
+      data_away : Syncs m₁ (Ok tt) m₂ → (i : ℕ) → shown m₂ (data_page_at i) ≡ shown m (data_page_at i)
+      data_away sync i = ap reads (log_away sync (data_page_at i) (λ e. omega (arith, log_low)))
 
-      pub log-ready : Syncs m₁ (Ok tt) m₂ → Ready D m₂ (logged v) v.table
-      log-ready sync =
-          let lands = log-lands sync in
+      pub log_ready : Syncs m₁ (Ok tt) m₂ → Ready D m₂ (logged v) v.table
+      log_ready sync =
+          let lands = log_lands sync in
           let settles = lands_settled m m₂ (logged_pages D v (shown m)) lands in
           record {
             power = lands.power;
             enough = omega (arith, lands.size, h.enough);
             few = omega (arith, lands.size, h.few);
             large = rw lands.size h.large;
-            holds = (safe-steps D few_pages).log_committed m m₁ m₂ v.area v.number t v.table v.next v.staged h.holds room h.ahead proper-log h.makes backed-new
+            holds = (safe_steps D few_pages).log_committed m m₁ m₂ v.area v.number t v.table v.next v.staged h.holds room h.ahead proper_log h.makes backed_new
                 call sync;
             small = h.small;
             makes = refl;
@@ -150,10 +150,10 @@ module _ (D : ℕ) (m : Pages) (v : Noted) (t : Table) (h : Ready D m v t) where
             long = h.long;
             proper = h.proper;
             ends = room;
-            ahead = λ k a b. log-away sync (log_page_at D v.area k) (λ e. omega arith) ∙ ap settled (ap reads (h.ahead k (omega arith) b));
+            ahead = λ k a b. log_away sync (log_page_at D v.area k) (λ e. omega arith) ∙ ap settled (ap reads (h.ahead k (omega arith) b));
             areas = λ q l. settles q;
             firm = λ i k e. settles (data_page_at i);
-            backed = λ i k e. let (bytes, is) = h.backed i k e in (bytes, data-away sync i ∙ is);
+            backed = λ i k e. let (bytes, is) = h.backed i k e in (bytes, data_away sync i ∙ is);
             blanks = λ i k e. settles (data_page_at i);
           }
 
@@ -173,68 +173,68 @@ log_whole bytes staged count c whole = let e : count - 0 ≡ count = omega arith
 
 -- What a log answers: power failed in the program, or in the sync behind it, or both were served.
 module _ (D : ℕ) (m m₁ : Pages) (v : Noted) (ready : (t : Table) × Ready D m v t) (flat : AllSettled m) (some : 0 < length v.staged) (room : v.next < log_pages D) where
-  pub log-unprogrammed : (f : Fault) → length (log_data v.staged) ≡ 512 → Programs m (log_page_at D v.area v.next) (log_note v.staged) (log_data v.staged) (Err f) m₁
+  pub log_unprogrammed : (f : Fault) → length (log_data v.staged) ≡ 512 → Programs m (log_page_at D v.area v.next) (log_note v.staged) (log_data v.staged) (Err f) m₁
       → CutShort D m v f m₁
-  log-unprogrammed f whole call = (log-fails D m v ready.0 ready.1 flat some room m₁ f whole call, (λ t h. log-left D m v t h flat some room (Err f) m₁ call))
+  log_unprogrammed f whole call = (log_fails D m v ready.0 ready.1 flat some room m₁ f whole call, (λ t h. log_left D m v t h flat some room (Err f) m₁ call))
 
   -- the program was served
   module _ (m₂ : Pages) (call : Programs m (log_page_at D v.area v.next) (log_note v.staged) (log_data v.staged) (Ok tt) m₁) where
-    pub log-unsettled : (f : Fault) → Syncs m₁ (Err f) m₂ → CutShort D m v f m₂
-    log-unsettled f sync =
-        (log-sync-fails D m v ready.0 ready.1 flat some room m₁ m₂ call f sync, (λ t h. log-sync-left D m v t h flat some room m₁ m₂ call f sync))
+    pub log_unsettled : (f : Fault) → Syncs m₁ (Err f) m₂ → CutShort D m v f m₂
+    log_unsettled f sync =
+        (log_sync_fails D m v ready.0 ready.1 flat some room m₁ m₂ call f sync, (λ t h. log_sync_left D m v t h flat some room m₁ m₂ call f sync))
 
-    pub log-served : Syncs m₁ (Ok tt) m₂ → CommitsAs D m v (logged_pages D v (shown m)) (logged v) (Ok tt) m₂ (with_next v (v.next + 1))
-    log-served sync =
+    pub log_served : Syncs m₁ (Ok tt) m₂ → CommitsAs D m v (logged_pages D v (shown m)) (logged v) (Ok tt) m₂ (with_next v (v.next + 1))
+    log_served sync =
         let e : suc v.next ≡ v.next + 1 = omega arith in
         subst (λ n. CommitsAs D m v (logged_pages D v (shown m)) (logged v) (Ok tt) m₂ (with_next v n)) e
-        (log-lands D m v ready.0 ready.1 flat some room m₁ m₂ call sync, refl, (λ t h. log-ready D m v t h flat some room m₁ m₂ call sync))
+        (log_lands D m v ready.0 ready.1 flat some room m₁ m₂ call sync, refl, (λ t h. log_ready D m v t h flat some room m₁ m₂ call sync))
 
 -- The sync before a commit failed.
 pub unsynced : (D : ℕ) (m m₁ : Pages) (v : Noted) (f : Fault) → (t : Table) × Ready D m v t → Syncs m (Err f) m₁ → CutShort D m v f m₁
-unsynced D m m₁ v f (t, h) call = (sync_lost m m₁ f h.power call, (λ u k. sync-left D m v u k m₁ f call))
+unsynced D m m₁ v f (t, h) call = (sync_lost m m₁ f h.power call, (λ u k. sync_left D m v u k m₁ f call))
 
 -- The sync before a commit was served, and left what the rest of the commit was given.
 module _ (D : ℕ) (m m₁ : Pages) (v : Noted) (sync : Syncs m (Ok tt) m₁) where
-  same-shown : shown m₁ ≡ shown m
-  same-shown = lands_shown m m₁ (shown m) (sync_lands m m₁ sync)
+  same_shown : shown m₁ ≡ shown m
+  same_shown = lands_shown m m₁ (shown m) (sync_lands m m₁ sync)
 
-  pub synced-flat : AllSettled m₁
-  synced-flat = lands_settled m m₁ (shown m) (sync_lands m m₁ sync)
+  pub synced_flat : AllSettled m₁
+  synced_flat = lands_settled m m₁ (shown m) (sync_lands m m₁ sync)
 
-  pub synced-ready : (t : Table) × Ready D m v t → (t : Table) × Ready D m₁ v t
-  synced-ready (t, h) = (t, sync-ready D m v t h m₁ sync)
+  pub synced_ready : (t : Table) × Ready D m v t → (t : Table) × Ready D m₁ v t
+  synced_ready (t, h) = (t, sync_ready D m v t h m₁ sync)
 
-  pub behind-sync : (m₂ : Pages) (w v₂ : Noted) (made : (ℕ → State) → ℕ → State) (r : Result (Unit {0}) Fault) → CommitsAs D m₁ v (made (shown m₁)) w r m₂ v₂
+  pub behind_sync : (m₂ : Pages) (w v₂ : Noted) (made : (ℕ → State) → ℕ → State) (r : Result (Unit {0}) Fault) → CommitsAs D m₁ v (made (shown m₁)) w r m₂ v₂
       → CommitsAs D m v (made (shown m)) w r m₂ v₂
-  behind-sync m₂ w v₂ made (Ok x) (lands, is, ready) = (
-    record { power = lands.power; size = lands.size ∙ sync.2.size; cells = λ p. lands.cells p ∙ ap (λ s. settled (made s p)) same-shown },
+  behind_sync m₂ w v₂ made (Ok x) (lands, is, ready) = (
+    record { power = lands.power; size = lands.size ∙ sync.2.size; cells = λ p. lands.cells p ∙ ap (λ s. settled (made s p)) same_shown },
     is,
-    (λ t h. ready t (sync-ready D m v t h m₁ sync)),
+    (λ t h. ready t (sync_ready D m v t h m₁ sync)),
   )
-  behind-sync m₂ w v₂ made (Err f) (fails, left) = (
+  behind_sync m₂ w v₂ made (Err f) (fails, left) = (
     record { lost = fails.lost; size = fails.size ∙ sync.2.size },
-    (λ t h. subst (λ s. Left D m₂ (Either (point t s) (point v.table s))) same-shown (left t (sync-ready D m v t h m₁ sync))),
+    (λ t h. subst (λ s. Left D m₂ (Either (point t s) (point v.table s))) same_shown (left t (sync_ready D m v t h m₁ sync))),
   )
 
 -- The three ways of a commit behind its sync: nothing is staged, or there is a log page left, or there is none.
 module _ (D : ℕ) (m m₁ m₂ : Pages) (v v₂ : Noted) (r : Result (Unit {0}) Fault) (sync : Syncs m (Ok tt) m₁) where
-  as-committed : (pages : ℕ → State) (w : Noted) → committed_pages D v (shown m) ≡ pages → committed D v ≡ w → CommitsAs D m v pages w r m₂ v₂ → Commits D m v r m₂ v₂
-  as-committed pages w a b h =
+  as_committed : (pages : ℕ → State) (w : Noted) → committed_pages D v (shown m) ≡ pages → committed D v ≡ w → CommitsAs D m v pages w r m₂ v₂ → Commits D m v r m₂ v₂
+  as_committed pages w a b h =
       subst (λ x. CommitsAs D m v x (committed D v) r m₂ v₂) (sym a) (subst (λ x. CommitsAs D m v pages x r m₂ v₂) (sym b) h)
 
-  pub commit-logged : 0 < length v.staged → v.next < log_pages D → CommitsAs D m₁ v (logged_pages D v (shown m₁)) (logged v) r m₂ v₂ → Commits D m v r m₂ v₂
-  commit-logged some room h =
+  pub commit_logged : 0 < length v.staged → v.next < log_pages D → CommitsAs D m₁ v (logged_pages D v (shown m₁)) (logged v) r m₂ v₂ → Commits D m v r m₂ v₂
+  commit_logged some room h =
       let a : eqb (length v.staged) 0 ≡ false = ne_eqb (length v.staged) 0 (λ e. omega arith) in
       let b : ltb v.next (log_pages D) ≡ true = lt-ltb v.next (log_pages D) room in
-      as-committed (logged_pages D v (shown m)) (logged v) (rw (a, b)) (rw (a, b)) (behind-sync D m m₁ v sync m₂ (logged v) v₂ (logged_pages D v) r h)
+      as_committed (logged_pages D v (shown m)) (logged v) (rw (a, b)) (rw (a, b)) (behind_sync D m m₁ v sync m₂ (logged v) v₂ (logged_pages D v) r h)
 
-  pub commit-checkpointed : 0 < length v.staged → log_pages D ≤ v.next
+  pub commit_checkpointed : 0 < length v.staged → log_pages D ≤ v.next
       → CommitsAs D m₁ v (checkpoint_pages D (other_area v.area) (next_number v.number) v.table (shown m₁)) (checkpointed v) r m₂ v₂ → Commits D m v r m₂ v₂
-  commit-checkpointed some full h =
+  commit_checkpointed some full h =
       let a : eqb (length v.staged) 0 ≡ false = ne_eqb (length v.staged) 0 (λ e. omega arith) in
       let b : ltb v.next (log_pages D) ≡ false = le-ltb v.next (log_pages D) full in
       let made = checkpoint_pages D (other_area v.area) (next_number v.number) v.table in
-      as-committed (made (shown m)) (checkpointed v) (rw (a, b)) (rw (a, b)) (behind-sync D m m₁ v sync m₂ (checkpointed v) v₂ made r h)
+      as_committed (made (shown m)) (checkpointed v) (rw (a, b)) (rw (a, b)) (behind_sync D m m₁ v sync m₂ (checkpointed v) v₂ made r h)
 
 none_staged : (t u : Table) (staged : List Record) → length staged ≡ 0 → replayed (Some t) staged ≡ Some u → t ≡ u
 none_staged t u [] e h = cc
@@ -243,5 +243,5 @@ none_staged t u (r ∷ rs) e h = absurd (omega arith)
 pub commit_nothing : (D : ℕ) (m m₁ : Pages) (v : Noted) → Syncs m (Ok tt) m₁ → length v.staged ≡ 0 → Commits D m v (Ok tt) m₁ v
 commit_nothing D m m₁ v sync none =
     let a : eqb (length v.staged) 0 ≡ true = eq-eqb (length v.staged) 0 none in
-    as-committed D m m₁ m₁ v v (Ok tt) sync (shown m) v (rw a) (rw a)
-    (sync_lands m m₁ sync, refl, (λ t h. subst (Ready D m₁ v) (none_staged t v.table v.staged none h.makes) (sync-ready D m v t h m₁ sync)))
+    as_committed D m m₁ m₁ v v (Ok tt) sync (shown m) v (rw a) (rw a)
+    (sync_lands m m₁ sync, refl, (λ t h. subst (Ready D m₁ v) (none_staged t v.table v.staged none h.makes) (sync_ready D m v t h m₁ sync)))

@@ -10,7 +10,7 @@ use Rattle.layout.specs.declared.records.Record.TheVariants.{Drop}
 use Rattle.layout.specs.Entries.{ProperEntry}
 use Rattle.table.specs.Tables.{Table, empty, has_mark, entry_at, marked_at, holds, held, without, apply, ProperTable}
 use Rattle.table.proofs.Tablewise.{holds_from, held_at, entry_proper}
-use Rattle.table.proofs.Changing.{without-one}
+use Rattle.table.proofs.Changing.{without_one}
 use Rattle.journal.specs.Notes.{Noted, staging}
 use Rattle.journal.specs.Drops.{in_block, drops_from, spared_from, spared, dropping_page, dropping}
 
@@ -63,7 +63,7 @@ page_dropped v i proper inside = ⊎_elim
     (λ (h : marked_at v.table i ≡ true).
     let here = marked_holds v.table i h in
     let e = entry_at v.table i in
-    let only = without-one v.table e.address.0 i (record { inside = inside; here = here; alone = λ j k. proper.distinct j i e.address.0 k here }) in
+    let only = without_one v.table e.address.0 i (record { inside = inside; here = here; alone = λ j k. proper.distinct j i e.address.0 k here }) in
     cond-true (marked_at v.table i) _ v h ∙ ap₂ (changed v) only (ap (λ x. v.staged ++ x) (sym (cond-true (has_mark e.mark) (Drop e.address ∷ []) [] h))))
     (λ (h : marked_at v.table i ≡ false).
     let e = entry_at v.table i in
@@ -126,42 +126,42 @@ module _ (b i : ℕ) (v : Noted) (inside : i < length v.table) where
   front_long : length front ≡ i
   front_long = length_spared_from (take i t) 0 b ∙ length-take-le i t (omega arith)
 
-  now-split : spared_upto t b i ≡ front ++ (entry_at t i ∷ rest)
-  now-split = ap (λ x. front ++ x) (drop_more t i empty inside)
+  now_split : spared_upto t b i ≡ front ++ (entry_at t i ∷ rest)
+  now_split = ap (λ x. front ++ x) (drop_more t i empty inside)
 
-  now-here : entry_at (spared_upto t b i) i ≡ entry_at t i
-  now-here = ap (λ x. entry_at x i) now-split ∙ get_or_at front (entry_at t i) rest empty i front_long
+  now_here : entry_at (spared_upto t b i) i ≡ entry_at t i
+  now_here = ap (λ x. entry_at x i) now_split ∙ get_or_at front (entry_at t i) rest empty i front_long
 
-  now-long : i < length (spared_upto t b i)
-  now-long = omega (arith, ap length now-split, length-append front (entry_at t i ∷ rest), front_long)
+  now_long : i < length (spared_upto t b i)
+  now_long = omega (arith, ap length now_split, length-append front (entry_at t i ∷ rest), front_long)
 
-  next-split : spared_upto t b (i + 1) ≡ front ++ (cond (in_block b i) empty (entry_at t i) ∷ rest)
-  next-split =
+  next_split : spared_upto t b (i + 1) ≡ front ++ (cond (in_block b i) empty (entry_at t i) ∷ rest)
+  next_split =
       ap (λ x. spared_from x 0 b ++ rest) (take_more t i empty inside)
       ∙ ap (λ x. x ++ rest) (spared_push (take i t) (entry_at t i) 0 i b (omega (arith, length-take-le i t (omega arith))))
       ∙ append_assoc front (cond (in_block b i) empty (entry_at t i) ∷ []) rest
 
-  next-staged : v.staged ++ drops_from (take (i + 1) t) 0 b ≡ (v.staged ++ drops_from (take i t) 0 b) ++ drop_in b i (entry_at t i)
-  next-staged =
+  next_staged : v.staged ++ drops_from (take (i + 1) t) 0 b ≡ (v.staged ++ drops_from (take i t) 0 b) ++ drop_in b i (entry_at t i)
+  next_staged =
       ap (λ x. v.staged ++ drops_from x 0 b) (take_more t i empty inside)
       ∙ ap (λ x. v.staged ++ x) (drops_push (take i t) (entry_at t i) 0 i b (omega (arith, length-take-le i t (omega arith))))
       ∙ sym (append_assoc v.staged (drops_from (take i t) 0 b) (drop_in b i (entry_at t i)))
 
-  pub dropped-beside : in_block b i ≡ false → dropped_upto b i v ≡ dropped_upto b (i + 1) v
-  dropped-beside out =
+  pub dropped_beside : in_block b i ≡ false → dropped_upto b i v ≡ dropped_upto b (i + 1) v
+  dropped_beside out =
       ap₂ (changed v)
-      (now-split ∙ sym (next-split ∙ ap (λ x. front ++ (x ∷ rest)) (cond-false (in_block b i) empty (entry_at t i) out)))
-      (sym (next-staged
+      (now_split ∙ sym (next_split ∙ ap (λ x. front ++ (x ∷ rest)) (cond-false (in_block b i) empty (entry_at t i) out)))
+      (sym (next_staged
       ∙ ap (λ x. (v.staged ++ drops_from (take i t) 0 b) ++ cond (x && has_mark (entry_at t i).mark) (Drop (entry_at t i).address ∷ []) []) out
       ∙ append-nil (v.staged ++ drops_from (take i t) 0 b)))
 
-  pub dropped-more : in_block b i ≡ true → ProperTable (spared_upto t b i) → dropping_page i (dropped_upto b i v) ≡ dropped_upto b (i + 1) v
-  dropped-more at proper =
-      page_dropped (dropped_upto b i v) i proper now-long
+  pub dropped_more : in_block b i ≡ true → ProperTable (spared_upto t b i) → dropping_page i (dropped_upto b i v) ≡ dropped_upto b (i + 1) v
+  dropped_more at proper =
+      page_dropped (dropped_upto b i v) i proper now_long
       ∙ ap₂ (changed v)
-      (ap (λ x. set x i empty) now-split
+      (ap (λ x. set x i empty) now_split
       ∙ set_at front (entry_at t i) rest empty i front_long
-      ∙ sym (next-split ∙ ap (λ x. front ++ (x ∷ rest)) (cond-true (in_block b i) empty (entry_at t i) at)))
-      (ap (λ x. (v.staged ++ drops_from (take i t) 0 b) ++ drop_of x) now-here
-      ∙ sym (next-staged
+      ∙ sym (next_split ∙ ap (λ x. front ++ (x ∷ rest)) (cond-true (in_block b i) empty (entry_at t i) at)))
+      (ap (λ x. (v.staged ++ drops_from (take i t) 0 b) ++ drop_of x) now_here
+      ∙ sym (next_staged
       ∙ ap (λ x. (v.staged ++ drops_from (take i t) 0 b) ++ cond (x && has_mark (entry_at t i).mark) (Drop (entry_at t i).address ∷ []) []) at))

@@ -14,7 +14,7 @@ use Rattle.layout.specs.Pages.{entry_note, entry_data}
 use Rattle.table.specs.Tables.{Table}
 use Rattle.recovery.specs.Looking.{shown}
 use Rattle.crash.specs.Crash.{Holds}
-use Rattle.crash.proofs.Cuts.{safe-steps, first_small}
+use Rattle.crash.proofs.Cuts.{safe_steps, first_small}
 use Rattle.journal.specs.Notes.{in_area}
 use Rattle.journal.specs.Steps.{AllSettled, Landing, Beside, with_entries}
 use Rattle.journal.proofs.Allowed.{settled_cell, program_allowed, program_fails, sync_fails, program_beside, sync_beside, sync_settles}
@@ -53,26 +53,26 @@ module _ (D : ℕ) (small : D ≤ 448) (active : Area) (t : Table) (m : Pages) (
 
   module _ (j : ℕ) (n : Pages) (c : Filling D active t m j n) where
     -- a page that is as it was is settled
-    as-was : (p : ℕ) → (first ≤ p → p < first + j → ⊥) → is_unsettled (n.cell p) ≡ false
-    as-was p out = ap is_unsettled (c.rest p out) ∙ all p
+    as_was : (p : ℕ) → (first ≤ p → p < first + j → ⊥) → is_unsettled (n.cell p) ≡ false
+    as_was p out = ap is_unsettled (c.rest p out) ∙ all p
 
     module _ (few : j < entry_pages D) (large : 12 ≤ m.size) (p : ℕ) (note : Note) (bytes : List ℕ) (at : p ≡ entry_page_at (other_area active) j) (noted : note ≡ entry_note j)
         (filled : bytes ≡ entry_data t j) (whole : length bytes ≡ 512) (n' : Pages) where
-      was-blank : n.cell p ≡ settled blank
-      was-blank = c.rest p (λ x y. omega arith) ∙ settled_cell (m.cell p) (all p) ∙ ap settled (free p inside)
+      was_blank : n.cell p ≡ settled blank
+      was_blank = c.rest p (λ x y. omega arith) ∙ settled_cell (m.cell p) (all p) ∙ ap settled (free p inside)
         where
           inside : in_area (other_area active) p ≡ true
           inside = ⊎_elim (λ i. i) (λ o. absurd (area_outside (other_area active) p o (omega arith) (omega arith))) (cases_Bool (in_area (other_area active) p))
 
-      page-free : program_refusal n p (length bytes) ≡ None
-      page-free = program_allowed n p (length bytes) c.power whole (omega (arith, first_small (other_area active), c.size)) was-blank
+      page_free : program_refusal n p (length bytes) ≡ None
+      page_free = program_allowed n p (length bytes) c.power whole (omega (arith, first_small (other_area active), c.size)) was_blank
 
-      step-held : (r : Result (Unit {0}) Fault) → Programs n p note bytes r n' → Keeps D active m n'
-      step-held r call number u h =
-          (safe-steps D small).other_entry n n' active number u j note bytes r (c.held number u h) few (subst (λ q. Programs n q note bytes r n') at call)
+      step_held : (r : Result (Unit {0}) Fault) → Programs n p note bytes r n' → Keeps D active m n'
+      step_held r call number u h =
+          (safe_steps D small).other_entry n n' active number u j note bytes r (c.held number u h) few (subst (λ q. Programs n q note bytes r n') at call)
 
-      pub filling-more : Programs n p note bytes (Ok tt) n' → Filling D active t m (j + 1) n'
-      filling-more call = record {
+      pub filling_more : Programs n p note bytes (Ok tt) n' → Filling D active t m (j + 1) n'
+      filling_more call = record {
         power = call.2.power;
         size = call.2.size ∙ c.size;
         put = λ q x y. ⊎_elim
@@ -83,35 +83,35 @@ module _ (D : ℕ) (small : D ≤ 448) (active : Area) (t : Table) (m : Pages) (
             (cases_eq q p);
         rest = λ q out.
             let before : first ≤ q → q < first + j → ⊥ = λ x y. out x (omega arith) in
-            program_beside n n' p note bytes (Ok tt) call q (λ i. out (omega arith) (omega arith)) (as-was q before) ∙ c.rest q before;
-        held = step-held (Ok tt) call;
+            program_beside n n' p note bytes (Ok tt) call q (λ i. out (omega arith) (omega arith)) (as_was q before) ∙ c.rest q before;
+        held = step_held (Ok tt) call;
       }
 
-      pub filling-fails : (f : Fault) → Programs n p note bytes (Err f) n' → Filled D active t m (Err f) n'
-      filling-fails f call =
-          let lost = program_fails n n' p note bytes f page-free call in
+      pub filling_fails : (f : Fault) → Programs n p note bytes (Err f) n' → Filled D active t m (Err f) n'
+      filling_fails f call =
+          let lost = program_fails n n' p note bytes f page_free call in
           record {
             done = record { lost = lost.lost; size = lost.size ∙ c.size };
             others = λ q out.
                 let away : first ≤ q → q < first + 32 → ⊥ = area_outside (other_area active) q out in
                 let before : first ≤ q → q < first + j → ⊥ = λ x y. away x (omega arith) in
-                program_beside n n' p note bytes (Err f) call q (λ i. away (omega arith) (omega arith)) (as-was q before) ∙ c.rest q before;
-            held = step-held (Err f) call;
+                program_beside n n' p note bytes (Err f) call q (λ i. away (omega arith) (omega arith)) (as_was q before) ∙ c.rest q before;
+            held = step_held (Err f) call;
           }
 
   -- the sync behind the entry pages
   module _ (n : Pages) (c : Filling D active t m (entry_pages D) n) (n' : Pages) where
-    sync-held : (r : Result (Unit {0}) Fault) → Syncs n r n' → Keeps D active m n'
-    sync-held r call number u h = (safe-steps D small).syncing n n' active number u r (c.held number u h) call
+    sync_held : (r : Result (Unit {0}) Fault) → Syncs n r n' → Keeps D active m n'
+    sync_held r call number u h = (safe_steps D small).syncing n n' active number u r (c.held number u h) call
 
     apart : (p : ℕ) → in_area (other_area active) p ≡ false → first ≤ p → p < first + entry_pages D → ⊥
     apart p out x y = area_outside (other_area active) p out x (omega arith)
 
-    sync-others : (r : Result (Unit {0}) Fault) → Syncs n r n' → Beside active m n'
-    sync-others r call p out = sync_beside n n' r call p (as-was (entry_pages D) n c p (apart p out)) ∙ c.rest p (apart p out)
+    sync_others : (r : Result (Unit {0}) Fault) → Syncs n r n' → Beside active m n'
+    sync_others r call p out = sync_beside n n' r call p (as_was (entry_pages D) n c p (apart p out)) ∙ c.rest p (apart p out)
 
-    reads-filled : (p : ℕ) → shown n p ≡ with_entries D active t (shown m) p
-    reads-filled p = ⊎_elim
+    reads_filled : (p : ℕ) → shown n p ≡ with_entries D active t (shown m) p
+    reads_filled p = ⊎_elim
         (λ (i : in_area (other_area active) p ≡ true).
         let k = area_inside (other_area active) p i in
         ⊎_elim
@@ -121,16 +121,16 @@ module _ (D : ℕ) (small : D ≤ 448) (active : Area) (t : Table) (m : Pages) (
         (λ (o : in_area (other_area active) p ≡ false). rw o (ap reads (c.rest p (apart p o))))
         (cases_Bool (in_area (other_area active) p))
 
-    pub filling-ends : (r : Result (Unit {0}) Fault) → Syncs n r n' → Filled D active t m r n'
-    filling-ends (Ok tt) call = record {
-      done = record { power = call.2.power; size = call.2.size ∙ c.size; cells = λ p. sync_settles n n' call p ∙ ap settled (reads-filled p) };
-      others = sync-others (Ok tt) call;
-      held = sync-held (Ok tt) call;
+    pub filling_ends : (r : Result (Unit {0}) Fault) → Syncs n r n' → Filled D active t m r n'
+    filling_ends (Ok tt) call = record {
+      done = record { power = call.2.power; size = call.2.size ∙ c.size; cells = λ p. sync_settles n n' call p ∙ ap settled (reads_filled p) };
+      others = sync_others (Ok tt) call;
+      held = sync_held (Ok tt) call;
     }
-    filling-ends (Err f) call =
+    filling_ends (Err f) call =
         let lost = sync_fails n n' f c.power call in
         record {
           done = record { lost = lost.lost; size = lost.size ∙ c.size };
-          others = sync-others (Err f) call;
-          held = sync-held (Err f) call;
+          others = sync_others (Err f) call;
+          held = sync_held (Err f) call;
         }

@@ -12,11 +12,11 @@ use Rattle.table.specs.Tables.{Table, empty, empty_table, entry_at, marked_at, h
 use Rattle.table.proofs.Tablewise.{proper_from}
 use Rattle.recovery.specs.Looking.{shown}
 use Rattle.crash.specs.Crash.{Holds}
-use Rattle.crash.proofs.Cuts.{safe-steps}
+use Rattle.crash.proofs.Cuts.{safe_steps}
 use Rattle.journal.specs.Notes.{Noted, in_area, formed}
 use Rattle.journal.specs.Ready.{Ready}
 use Rattle.journal.specs.Steps.{AllBlank, Formed, Lands, with_entries, with_trailer}
-use Rattle.journal.proofs.Checkpointing.{written, outside-there, lands_settled, lands_shown, fresh_ready, entries-closed, log-closed, trailer-closed, elsewhere-closed}
+use Rattle.journal.proofs.Checkpointing.{written, outside_there, lands_settled, lands_shown, fresh_ready, entries_closed, log_closed, trailer_closed, elsewhere_closed}
 
 -- The empty table
 
@@ -56,27 +56,27 @@ module _ (D : ℕ) (m m₁ m₂ m₃ : Pages) (enough : 12 ≤ m.size) (few : m.
   size : m₃.size ≡ m.size
   size = three.size ∙ two.size ∙ wiped.size
 
-  other-blank : m₃.cell (trailer_at D Two) ≡ settled blank
-  other-blank =
-      elsewhere-closed D small Two (empty_table D) m₁ m₂ two 0 m₃ three (trailer_at D Two) (λ e. omega arith)
+  other_blank : m₃.cell (trailer_at D Two) ≡ settled blank
+  other_blank =
+      elsewhere_closed D small Two (empty_table D) m₁ m₂ two 0 m₃ three (trailer_at D Two) (λ e. omega arith)
       ∙ ap settled (lands_shown m₁ _ m₂ two (trailer_at D Two)
-      ∙ outside-there D small Two (empty_table D) (shown m₁) (trailer_at D Two) (past_first (trailer_at D Two) (omega arith))
+      ∙ outside_there D small Two (empty_table D) (shown m₁) (trailer_at D Two) (past_first (trailer_at D Two) (omega arith))
       ∙ wiped.blanks (trailer_at D Two) (omega arith))
 
   holds : Holds D m₃ One 0 (empty_table D)
   holds =
-      (safe-steps D small).formed m₃ One 0 (empty_table D) (omega arith) (length-replicate D empty) (empty_proper D)
-      (entries-closed D small Two (empty_table D) m₁ m₂ two 0 m₃ three) (trailer-closed D small Two (empty_table D) m₁ m₂ two 0 m₃ three) other-blank
-      (log-closed D small Two (empty_table D) m₁ m₂ two 0 m₃ three) (λ i _ marked. absurd (none_marked D i marked))
+      (safe_steps D small).formed m₃ One 0 (empty_table D) (omega arith) (length-replicate D empty) (empty_proper D)
+      (entries_closed D small Two (empty_table D) m₁ m₂ two 0 m₃ three) (trailer_closed D small Two (empty_table D) m₁ m₂ two 0 m₃ three) other_blank
+      (log_closed D small Two (empty_table D) m₁ m₂ two 0 m₃ three) (λ i _ marked. absurd (none_marked D i marked))
 
   ready : Ready D m₃ (formed D) (empty_table D)
   ready =
       fresh_ready D m₃ One 0 (empty_table D) three.power (omega (arith, size)) (omega (arith, size)) (large ∙ ap data_pages (sym size)) holds (omega arith)
-      (length-replicate D empty) (empty_proper D) (log-closed D small Two (empty_table D) m₁ m₂ two 0 m₃ three) (lands_settled m₂ _ m₃ three)
+      (length-replicate D empty) (empty_proper D) (log_closed D small Two (empty_table D) m₁ m₂ two 0 m₃ three) (lands_settled m₂ _ m₃ three)
       (λ i _ marked. absurd (none_marked D i marked))
 
-  pub all-formed : (v : Noted) → v ≡ formed D → Formed D m m₃ v
-  all-formed v e = record {
+  pub all_formed : (v : Noted) → v ≡ formed D → Formed D m m₃ v
+  all_formed v e = record {
     power = three.power;
     size = size;
     settled_all = lands_settled m₂ _ m₃ three;

@@ -10,13 +10,13 @@ use Rattle.layout.specs.declared.records.Record.TheVariants.{Drop}
 use Rattle.layout.specs.Records.{ProperRecord}
 use Rattle.table.specs.Tables.{Table, empty, has_mark, entry_at, marked_at, without, replayed, ProperTable}
 use Rattle.table.proofs.Tablewise.{held_fits, entry_proper}
-use Rattle.table.proofs.Changing.{without-proper, replayed_append}
+use Rattle.table.proofs.Changing.{without_proper, replayed_append}
 use Rattle.recovery.specs.Looking.{shown}
 use Rattle.recovery.specs.Recovering.{IsData, Backed}
 use Rattle.journal.specs.Notes.{Noted, staging}
 use Rattle.journal.specs.Drops.{in_block, drops_from, spared_from, drops, spared, dropping_page, dropping}
 use Rattle.journal.specs.Ready.{Ready}
-use Rattle.journal.proofs.Dropped.{drop_applies, length_spared_from, dropped_upto, dropped_none, dropped_all, dropped-beside, dropped-more}
+use Rattle.journal.proofs.Dropped.{drop_applies, length_spared_from, dropped_upto, dropped_none, dropped_all, dropped_beside, dropped_more}
 
 -- An erase block has eight pages.
 
@@ -87,7 +87,7 @@ page_follows t v i h =
     let e = entry_at v.table i in
     cond_both (marked_at v.table i) (staging v (without v.table e.address.0) (Drop e.address)) v (Follows t)
     (λ marked. record {
-      proper = without-proper v.table h.proper e.address.0;
+      proper = without_proper v.table h.proper e.address.0;
       makes = replayed_append (Some t) v.staged (Drop e.address ∷ []) ∙ ap (λ o. replayed o (Drop e.address ∷ [])) h.makes ∙ drop_applies v.table i marked;
       records = All-push ProperRecord v.staged (Drop e.address) h.records (held_fits e.mark e.address.0 marked (entry_proper v.table i h.proper));
     })
@@ -101,8 +101,8 @@ upto_follows t b (suc i) v l h =
     let inside : i < length v.table = omega arith in
     subst (λ k. Follows t (dropped_upto b k v)) one
     (⊎_elim
-    (λ (at : in_block b i ≡ true). subst (Follows t) (dropped-more b i v inside at before.proper) (page_follows t (dropped_upto b i v) i before))
-    (λ (out : in_block b i ≡ false). subst (Follows t) (dropped-beside b i v inside out) before)
+    (λ (at : in_block b i ≡ true). subst (Follows t) (dropped_more b i v inside at before.proper) (page_follows t (dropped_upto b i v) i before))
+    (λ (out : in_block b i ≡ false). subst (Follows t) (dropped_beside b i v inside out) before)
     (cases_Bool (in_block b i)))
 
 pub dropping_follows : (t : Table) (b : ℕ) (v : Noted) → Follows t v → Follows t (dropping b v)

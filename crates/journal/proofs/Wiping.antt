@@ -24,26 +24,26 @@ early_same (unsettled was s) d h e = absurd (true≢false h)
 
 -- An erase of a block that is there, with every page of it settled, is not refused.
 module _ (m : Pages) (b : ℕ) (free : (q : ℕ) → block_of q ≡ b → is_unsettled (m.cell q) ≡ false) where
-  none-unsettled : (k : ℕ) → unsettled_in m.cell b k ≡ false
+  none_unsettled : (k : ℕ) → unsettled_in m.cell b k ≡ false
   unfolding unsettled_in
-  none-unsettled zero = refl
-  none-unsettled (suc k) =
+  none_unsettled zero = refl
+  none_unsettled (suc k) =
       or_from (eqb (block_of k) b && is_unsettled (m.cell k)) (unsettled_in m.cell b k)
       (⊎_elim
       (λ (e : eqb (block_of k) b ≡ true). and_right (eqb (block_of k) b) (is_unsettled (m.cell k)) (free k (eqb-true (block_of k) b e)))
       (λ (e : eqb (block_of k) b ≡ false). and_left (eqb (block_of k) b) (is_unsettled (m.cell k)) e)
       (cases_Bool (eqb (block_of k) b)))
-      (none-unsettled k)
+      (none_unsettled k)
 
   erase_allowed : m.on ≡ true → b < m.size → erase_refusal m b ≡ None
   erase_allowed on inside =
       in_order_none m.on (chip_fault b PowerOff) true (ltb b m.size) (chip_fault b) _ on refl (lt-ltb b m.size inside)
-      ∙ ap (λ u. cond u (Some (chip_fault b Unsettled)) None) (none-unsettled (page_count m))
+      ∙ ap (λ u. cond u (Some (chip_fault b Unsettled)) None) (none_unsettled (page_count m))
 
   -- so where it is not served, power failed in it
-  pub erase-failed : (n : Pages) (f : Fault) → m.on ≡ true → b < m.size → Erases m b (Err f) n → Fails m f n
-  erase-failed n f on inside (_, inl (e, _)) = let z : None ≡ Some f = sym (erase_allowed on inside) ∙ e in grind arith
-  erase-failed n f on inside (_, inr (_, lost, k)) = record { lost = (k.power, (b, lost)); size = k.size }
+  pub erase_failed : (n : Pages) (f : Fault) → m.on ≡ true → b < m.size → Erases m b (Err f) n → Fails m f n
+  erase_failed n f on inside (_, inl (e, _)) = let z : None ≡ Some f = sym (erase_allowed on inside) ∙ e in grind arith
+  erase_failed n f on inside (_, inr (_, lost, k)) = record { lost = (k.power, (b, lost)); size = k.size }
 
 -- and a sync is not refused on a chip that is on
 pub sync_failed : (m n : Pages) (f : Fault) → m.on ≡ true → Syncs m (Err f) n → Fails m f n
@@ -67,11 +67,11 @@ module _ (m n : Pages) (b : ℕ) (still : AllSettled m) (w : Wiping m n b) where
   free : (q : ℕ) → block_of q ≡ b → is_unsettled (n.cell q) ≡ false
   free q e = ap is_unsettled (w.rest q (omega arith)) ∙ still q
 
-  pub wiping-failed : (k : Pages) (f : Fault) → b < m.size → Erases n b (Err f) k → Fails m f k
-  wiping-failed k f inside call = fails_then m n k f w.size (erase-failed n b free k f w.power (omega (arith, w.size)) call)
+  pub wiping_failed : (k : Pages) (f : Fault) → b < m.size → Erases n b (Err f) k → Fails m f k
+  wiping_failed k f inside call = fails_then m n k f w.size (erase_failed n b free k f w.power (omega (arith, w.size)) call)
 
-  pub wiping-more : (k : Pages) → Erases n b (Ok tt) k → Wiping m k (b + 1)
-  wiping-more k call = record {
+  pub wiping_more : (k : Pages) → Erases n b (Ok tt) k → Wiping m k (b + 1)
+  wiping_more k call = record {
     power = call.2.power;
     size = call.2.size ∙ w.size;
     done = λ q l.

@@ -19,24 +19,24 @@ drop_zeros n h =
     ap (drop 8) (sym (replicate-append-replicate 8 (n - 8) 0 ∙ ap (λ m. zeros m) e)) ∙ drop_at (zeros 8) (zeros (n - 8)) 8 refl
 
 module _ {X : Type 0} (bytes : X → List ℕ) (eight : (x : X) → length (bytes x) ≡ 8) where
-  pub length-cells : (xs : List X) → length (flat_map bytes xs) ≡ 8 * length xs
-  length-cells [] = refl
-  length-cells (x ∷ xs) =
+  pub length_cells : (xs : List X) → length (flat_map bytes xs) ≡ 8 * length xs
+  length_cells [] = refl
+  length_cells (x ∷ xs) =
       let e = eight x in
-      let r = length-cells xs in
+      let r = length_cells xs in
       omega (arith, length-append (bytes x) (flat_map bytes xs))
 
-  cells-push : (xs : List X) (x : X) → flat_map bytes xs ++ bytes x ≡ flat_map bytes (xs ++ (x ∷ []))
-  cells-push xs x = flat_map_more bytes [] xs x
+  cells_push : (xs : List X) (x : X) → flat_map bytes xs ++ bytes x ≡ flat_map bytes (xs ++ (x ∷ []))
+  cells_push xs x = flat_map_more bytes [] xs x
 
   length_front : (xs : List X) (k : ℕ) → k ≤ length xs → length (flat_map bytes (take k xs)) ≡ 8 * k
-  length_front xs k h = length-cells (take k xs) ∙ ap (λ n. 8 * n) (length-take-le k xs h)
+  length_front xs k h = length_cells (take k xs) ∙ ap (λ n. 8 * n) (length-take-le k xs h)
 
   -- one more value written
-  pub put-more : (page : List ℕ) (xs : List X) (k : ℕ) (x : X) → k < length xs → length xs ≤ 64 → x ≡ get_or xs k x
+  pub put_more : (page : List ℕ) (xs : List X) (k : ℕ) (x : X) → k < length xs → length xs ≤ 64 → x ≡ get_or xs k x
       → page ≡ flat_map bytes (take k xs) ++ zeros (512 - 8 * k) → (after : List ℕ) → after ≡ take (8 * k) page ++ (bytes x ++ drop (8 * k + 8) page)
       → after ≡ flat_map bytes (take (k + 1) xs) ++ zeros (512 - 8 * (k + 1))
-  put-more page xs k x l few is e after now =
+  put_more page xs k x l few is e after now =
       let front : List ℕ = flat_map bytes (take k xs) in
       let rest : List ℕ = zeros (512 - 8 * k) in
       let len : length front ≡ 8 * k = length_front xs k (omega arith) in
@@ -48,7 +48,7 @@ module _ {X : Type 0} (bytes : X → List ℕ) (eight : (x : X) → length (byte
       let more : take (k + 1) xs ≡ take k xs ++ (x ∷ []) = take_more xs k x l ∙ ap (λ y. take k xs ++ (y ∷ [])) (sym is) in
       let behind : List ℕ = zeros (512 - 8 * (k + 1)) in
       now ∙ ap (λ z. z ++ (bytes x ++ drop (8 * k + 8) page)) before ∙ ap (λ z. front ++ (bytes x ++ z)) below
-      ∙ sym (append_assoc front (bytes x) behind) ∙ ap (λ z. z ++ behind) (cells-push (take k xs) x ∙ ap (flat_map bytes) (sym more))
+      ∙ sym (append_assoc front (bytes x) behind) ∙ ap (λ z. z ++ behind) (cells_push (take k xs) x ∙ ap (flat_map bytes) (sym more))
 
   -- all values written
   pub put_all : (page : List ℕ) (xs : List X) (k : ℕ) → k ≡ length xs → page ≡ flat_map bytes (take k xs) ++ zeros (512 - 8 * k) → page ≡ cells_page bytes xs
@@ -57,24 +57,24 @@ module _ {X : Type 0} (bytes : X → List ℕ) (eight : (x : X) → length (byte
       e ∙ ap (λ z. flat_map bytes z ++ zeros (512 - 8 * k)) (take_all k xs (omega arith)) ∙ ap (λ m. flat_map bytes xs ++ zeros (512 - 8 * m)) n
 
   -- one more value read, behind those before it
-  pub push-more : (page : List ℕ) (xs : List X) (k : ℕ) (x : X) → take (8 * k) page ≡ flat_map bytes xs
+  pub push_more : (page : List ℕ) (xs : List X) (k : ℕ) (x : X) → take (8 * k) page ≡ flat_map bytes xs
       → take 8 (drop (8 * k) page) ≡ bytes x → take (8 * (k + 1)) page ≡ flat_map bytes (xs ++ (x ∷ []))
-  push-more page xs k x front here =
+  push_more page xs k x front here =
       let n : 8 * (k + 1) ≡ 8 * k + 8 = omega arith in
       ap (λ m. take m page) n ∙ take-add (8 * k) 8 page ∙ ap (λ z. z ++ take 8 (drop (8 * k) page)) front ∙ ap (λ z. flat_map bytes xs ++ z) here
-      ∙ cells-push xs x
+      ∙ cells_push xs x
 
   -- the same, into a list with room for it
-  get-more : (page : List ℕ) (xs : List X) (k : ℕ) (x : X) → k < length xs → take (8 * k) page ≡ flat_map bytes (take k xs)
+  get_more : (page : List ℕ) (xs : List X) (k : ℕ) (x : X) → k < length xs → take (8 * k) page ≡ flat_map bytes (take k xs)
       → take 8 (drop (8 * k) page) ≡ bytes x → take (8 * (k + 1)) page ≡ flat_map bytes (take (k + 1) (set xs k x))
-  get-more page xs k x l front here =
-      push-more page (take k xs) k x front here ∙ ap (flat_map bytes) (sym (take_more_set xs k x l))
+  get_more page xs k x l front here =
+      push_more page (take k xs) k x front here ∙ ap (flat_map bytes) (sym (take_more_set xs k x l))
 
   -- all values read, and zeros after them
-  pub get-all : (page : List ℕ) (xs : List X) → length page ≡ 512 → length xs ≤ 64 → take (8 * length xs) page ≡ flat_map bytes xs
+  pub get_all : (page : List ℕ) (xs : List X) → length page ≡ 512 → length xs ≤ 64 → take (8 * length xs) page ≡ flat_map bytes xs
       → ((k : ℕ) → 8 * length xs ≤ k → k < length page → get_or page k 0 ≡ 0) → page ≡ cells_page bytes xs
   unfolding cells_page
-  get-all page xs whole few front rest-is =
+  get_all page xs whole few front rest-is =
       let n : ℕ = 8 * length xs in
       let len : length (drop n page) ≡ length (zeros (512 - n)) = length-drop {A = ℕ} n page ∙ ap (λ m. m - n) whole ∙ sym (length-replicate {A = ℕ} (512 - n) 0) in
       let rest : drop n page ≡ zeros (512 - n) =
@@ -85,21 +85,21 @@ module _ {X : Type 0} (bytes : X → List ℕ) (eight : (x : X) → length (byte
       sym (take-append-drop n page) ∙ ap (λ z. z ++ drop n page) front ∙ ap (λ z. flat_map bytes xs ++ z) rest
 
   -- what stands behind the values is zero
-  pub rest-zero : (page : List ℕ) (xs : List X) (k : ℕ) → page ≡ cells_page bytes xs → 8 * length xs ≤ k → get_or page k 0 ≡ 0
+  pub rest_zero : (page : List ℕ) (xs : List X) (k : ℕ) → page ≡ cells_page bytes xs → 8 * length xs ≤ k → get_or page k 0 ≡ 0
   unfolding cells_page
-  rest-zero page xs k e h =
-      ap (λ z. get_or z k 0) e ∙ get_or-append_right (flat_map bytes xs) (zeros (512 - 8 * length xs)) (8 * length xs) k 0 (length-cells xs) h
-      ∙ zeros-zero (512 - 8 * length xs) (k - 8 * length xs)
+  rest_zero page xs k e h =
+      ap (λ z. get_or z k 0) e ∙ get_or-append_right (flat_map bytes xs) (zeros (512 - 8 * length xs)) (8 * length xs) k 0 (length_cells xs) h
+      ∙ zeros_zero (512 - 8 * length xs) (k - 8 * length xs)
     where
-      zeros-zero : (n i : ℕ) → get_or (zeros n) i 0 ≡ 0
-      zeros-zero zero i = refl
-      zeros-zero (suc n) zero = refl
-      zeros-zero (suc n) (suc i) = zeros-zero n i
+      zeros_zero : (n i : ℕ) → get_or (zeros n) i 0 ≡ 0
+      zeros_zero zero i = refl
+      zeros_zero (suc n) zero = refl
+      zeros_zero (suc n) (suc i) = zeros_zero n i
 
   -- the first value of a page
-  pub one-front : (page : List ℕ) (x : X) → page ≡ cells_page bytes (x ∷ []) → take 8 page ≡ bytes x
+  pub one_front : (page : List ℕ) (x : X) → page ≡ cells_page bytes (x ∷ []) → take 8 page ≡ bytes x
   unfolding cells_page
-  one-front page x e = ap (take 8) (e ∙ append_assoc (bytes x) [] (zeros 504)) ∙ take_at (bytes x) (zeros 504) 8 (eight x)
+  one_front page x e = ap (take 8) (e ∙ append_assoc (bytes x) [] (zeros 504)) ∙ take_at (bytes x) (zeros 504) 8 (eight x)
 
   module _ (Proper : X → Type 0) where
     cell_in : (xs : List X) (k : ℕ) (rest : List ℕ) → k < length xs → All Proper xs
@@ -119,43 +119,43 @@ module _ {X : Type 0} (bytes : X → List ℕ) (eight : (x : X) → length (byte
         )
 
     -- a proper value stands at each place of a page of proper values
-    pub cell-proper : (page : List ℕ) (xs : List X) (k : ℕ) → page ≡ cells_page bytes xs → k < length xs → All Proper xs
+    pub cell_proper : (page : List ℕ) (xs : List X) (k : ℕ) → page ≡ cells_page bytes xs → k < length xs → All Proper xs
         → (x : X) × Proper x × (take 8 (drop (8 * k) page) ≡ bytes x)
     unfolding cells_page
-    cell-proper page xs k e l ps =
+    cell_proper page xs k e l ps =
         let t = cell_in xs k (zeros (512 - 8 * length xs)) l ps in
         (t.0, t.1, ap (λ z. take 8 (drop (8 * k) z)) e ∙ t.2)
 
     -- the loop's step, and its end
-    pub get-again : (page : List ℕ) (xs : List X) (k : ℕ) (x : X) → k < length xs
+    pub get_again : (page : List ℕ) (xs : List X) (k : ℕ) (x : X) → k < length xs
         → All Proper (take k xs) × (take (8 * k) page ≡ flat_map bytes (take k xs)) → Proper x → take 8 (drop (8 * k) page) ≡ bytes x
         → All Proper (take (k + 1) (set xs k x)) × (take (8 * (k + 1)) page ≡ flat_map bytes (take (k + 1) (set xs k x)))
-    get-again page xs k x l (ps, front) p here =
-        (subst (All Proper) (sym (take_more_set xs k x l)) (All-push Proper (take k xs) x ps p), get-more page xs k x l front here)
+    get_again page xs k x l (ps, front) p here =
+        (subst (All Proper) (sym (take_more_set xs k x l)) (All-push Proper (take k xs) x ps p), get_more page xs k x l front here)
 
-    pub get-done : (page : List ℕ) (xs : List X) (k m : ℕ) → k ≡ length xs → m ≡ 8 * length xs → length page ≡ 512 → length xs ≤ 64
+    pub get_done : (page : List ℕ) (xs : List X) (k m : ℕ) → k ≡ length xs → m ≡ 8 * length xs → length page ≡ 512 → length xs ≤ 64
         → All Proper (take k xs) × (take (8 * k) page ≡ flat_map bytes (take k xs))
         → ((i : ℕ) → m ≤ i → i < length page → get_or page i 0 ≡ 0) → All Proper xs × (page ≡ cells_page bytes xs)
-    get-done page xs k m n e whole few (ps, front) rest-is =
+    get_done page xs k m n e whole few (ps, front) rest-is =
         let all : take k xs ≡ xs = take_all k xs (omega arith) in (
           subst (All Proper) all ps,
-          get-all page xs whole few (ap (λ j. take (8 * j) page) (sym n) ∙ front ∙ ap (flat_map bytes) all) (λ i h j. rest-is i (omega arith) j),
+          get_all page xs whole few (ap (λ j. take (8 * j) page) (sym n) ∙ front ∙ ap (flat_map bytes) all) (λ i h j. rest-is i (omega arith) j),
         )
 
     -- a page of one value
-    pub one-decodes : (page : List ℕ) → length page ≡ 512 → ((i : ℕ) → 8 ≤ i → i < length page → get_or page i 0 ≡ 0) → (r : Option X)
+    pub one_decodes : (page : List ℕ) → length page ≡ 512 → ((i : ℕ) → 8 ≤ i → i < length page → get_or page i 0 ≡ 0) → (r : Option X)
         → Decodes Proper bytes (take 8 page) r → Decodes Proper (λ x. cells_page bytes (x ∷ [])) page r
-    one-decodes page whole rest-is (Some x) (p, e, only) =
-        (p, get-all page (x ∷ []) whole (lit≤ tt) (e ∙ sym (append-nil (bytes x))) rest-is, λ y q f. only y q (one-front page y f))
-    one-decodes page whole rest-is None none = λ y q f. none y q (one-front page y f)
+    one_decodes page whole rest-is (Some x) (p, e, only) =
+        (p, get_all page (x ∷ []) whole (lit≤ tt) (e ∙ sym (append-nil (bytes x))) rest-is, λ y q f. only y q (one_front page y f))
+    one_decodes page whole rest-is None none = λ y q f. none y q (one_front page y f)
 
     module _ (apart : (x y : X) → Proper x → Proper y → bytes x ≡ bytes y → x ≡ y) where
-      same-joined : (xs ys : List X) (r s : List ℕ) → length xs ≡ length ys → All Proper xs → All Proper ys
+      same_joined : (xs ys : List X) (r s : List ℕ) → length xs ≡ length ys → All Proper xs → All Proper ys
           → flat_map bytes xs ++ r ≡ flat_map bytes ys ++ s → xs ≡ ys
-      same-joined [] [] r s l ps qs e = refl
-      same-joined [] (y ∷ ys) r s l ps qs e = absurd (omega arith)
-      same-joined (x ∷ xs) [] r s l ps qs e = absurd (omega arith)
-      same-joined (x ∷ xs) (y ∷ ys) r s l (p, ps) (q, qs) e =
+      same_joined [] [] r s l ps qs e = refl
+      same_joined [] (y ∷ ys) r s l ps qs e = absurd (omega arith)
+      same_joined (x ∷ xs) [] r s l ps qs e = absurd (omega arith)
+      same_joined (x ∷ xs) (y ∷ ys) r s l (p, ps) (q, qs) e =
           let f : bytes x ++ (flat_map bytes xs ++ r) ≡ bytes y ++ (flat_map bytes ys ++ s) =
           sym (append_assoc (bytes x) (flat_map bytes xs) r) ∙ e ∙ append_assoc (bytes y) (flat_map bytes ys) s in
           let here : bytes x ≡ bytes y =
@@ -163,10 +163,10 @@ module _ {X : Type 0} (bytes : X → List ℕ) (eight : (x : X) → length (byte
           let there : flat_map bytes xs ++ r ≡ flat_map bytes ys ++ s =
           sym (drop_at (bytes x) (flat_map bytes xs ++ r) 8 (eight x)) ∙ ap (drop 8) f ∙ drop_at (bytes y) (flat_map bytes ys ++ s) 8 (eight y) in
           let h = apart x y p q here in
-          let t = same-joined xs ys r s (omega arith) ps qs there in
+          let t = same_joined xs ys r s (omega arith) ps qs there in
           cc
 
       -- as many proper values with the same page are the same values
-      pub same-cells : (xs ys : List X) → length xs ≡ length ys → All Proper xs → All Proper ys → cells_page bytes xs ≡ cells_page bytes ys → xs ≡ ys
+      pub same_cells : (xs ys : List X) → length xs ≡ length ys → All Proper xs → All Proper ys → cells_page bytes xs ≡ cells_page bytes ys → xs ≡ ys
       unfolding cells_page
-      same-cells xs ys l ps qs e = same-joined xs ys (zeros (512 - 8 * length xs)) (zeros (512 - 8 * length ys)) l ps qs e
+      same_cells xs ys l ps qs e = same_joined xs ys (zeros (512 - 8 * length xs)) (zeros (512 - 8 * length ys)) l ps qs e

@@ -18,16 +18,16 @@ front_is ys k e =
 -- A part that begins at a and ends at e, where 64 entries or the list end.
 module _ {X : Type 0} (table : List X) (a e : ℕ) (inside : a ≤ length table) (within : e ≤ length table) (size : e - a ≡ min 64 (length table - a)) where
   -- the part as a slice
-  pub part-is : take (e - a) (drop a table) ≡ take 64 (drop a table)
-  part-is = front_is (drop a table) (e - a) (size ∙ ap (min 64) (sym (length-drop a table)))
+  pub part_is : take (e - a) (drop a table) ≡ take 64 (drop a table)
+  part_is = front_is (drop a table) (e - a) (size ∙ ap (min 64) (sym (length-drop a table)))
 
   -- as long in each list of this length
   pub part_length : (t : List X) → length t ≡ length table → length (take 64 (drop a t)) ≡ e - a
   part_length t l = length-take 64 (drop a t) ∙ ap (min 64) (length-drop a t ∙ ap (λ n. n - a) l) ∙ sym size
 
   -- the part after it was written over
-  pub part-after : (part : List X) → length part ≡ e - a → take 64 (drop a (put_mid a (e - a) table part)) ≡ part
-  part-after part l =
+  pub part_after : (part : List X) → length part ≡ e - a → take 64 (drop a (put_mid a (e - a) table part)) ≡ part
+  part_after part l =
       let post : List X = drop (e - a) (drop a table) in
       let cut : drop a (put_mid a (e - a) table part) ≡ part ++ post = drop_at (take a table) (part ++ post) a (length-take-le a table inside) in
       let d₁ : length (drop a table) ≡ length table - a = length-drop a table in

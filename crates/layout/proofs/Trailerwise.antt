@@ -24,9 +24,9 @@ same_trailer t u ht hu e =
 
 -- eight bytes as a trailer's head
 module _ (xs : List ℕ) (len : length xs ≡ 8) (small : (i : ℕ) → get_or xs i 0 < 256) (h0 : get_or xs 0 0 ≡ 70) (h1 : get_or xs 1 0 ≡ 84) (h2 : get_or xs 2 0 ≡ 67) (h3 : get_or xs 3 0 ≡ 80) where
-  pub trailer-read : (a : Area) (f n : ℕ) → f ≡ two_number (get_or xs 4 0) (get_or xs 5 0) → n ≡ two_number (get_or xs 6 0) (get_or xs 7 0) → f ≡ first_page a
+  pub trailer_read : (a : Area) (f n : ℕ) → f ≡ two_number (get_or xs 4 0) (get_or xs 5 0) → n ≡ two_number (get_or xs 6 0) (get_or xs 7 0) → f ≡ first_page a
       → xs ≡ trailer_bytes (trailer_of a n)
-  trailer-read a f n hf hn ha =
+  trailer_read a f n hf hn ha =
       let e = eight_listed xs len in
       let s = two_in (get_or xs 4 0) (get_or xs 5 0) (get_or xs 6 0 ∷ get_or xs 7 0 ∷ []) (small 4) (small 5) in
       let t = two_in (get_or xs 6 0) (get_or xs 7 0) [] (small 6) (small 7) in

@@ -19,7 +19,7 @@ use Rattle.layout.specs.Laws.{ProperTable, Checkpoint, entry_page, trailer_page,
 use Rattle.layout.specs.Recordwise.{same_record}
 use Rattle.layout.specs.Entrywise.{same_entry}
 use Rattle.layout.proofs.Trailerwise.{same_trailer}
-use Rattle.layout.proofs.Cellwise.{same-cells}
+use Rattle.layout.proofs.Cellwise.{same_cells}
 use Rattle.layout.proofs.Partwise.{same_parts}
 
 held_note : (m n : Note) (xs ys : List ℕ) → held m xs ≡ held n ys → m ≡ n
@@ -42,7 +42,7 @@ same_entry_page t u j ps qs l e =
     let lu : length (entry_part u j) ≡ min 64 (length (drop (64 * j) u)) = length-take 64 (drop (64 * j) u) in
     let same : length (entry_part t j) ≡ length (entry_part u j) =
     lt ∙ ap (min 64) (length-drop (64 * j) t ∙ ap (λ n. n - 64 * j) l ∙ sym (length-drop (64 * j) u)) ∙ sym lu in
-    same-cells entry_bytes (λ x. refl) ProperEntry same_entry (entry_part t j) (entry_part u j) same
+    same_cells entry_bytes (λ x. refl) ProperEntry same_entry (entry_part t j) (entry_part u j) same
     (All-take ProperEntry 64 (drop (64 * j) t) (All-drop ProperEntry (64 * j) t ps)) (All-take ProperEntry 64 (drop (64 * j) u) (All-drop ProperEntry (64 * j) u qs))
     (held_bytes (entry_note j) (entry_note j) (entry_data t j) (entry_data u j) e)
 
@@ -61,8 +61,8 @@ module _ (pages : ℕ → State) (area : Area) (t u : List Entry) (m n : ℕ) (p
       go (inr (inl l)) = absurd (not_trailer u (entry_pages (length t)) area (length t) m (sym (cu.entries (entry_pages (length t)) l) ∙ ct.trailer))
       go (inr (inr l)) = absurd (not_trailer t (entry_pages (length u)) area (length u) n (sym (ct.entries (entry_pages (length u)) l) ∙ cu.trailer))
 
-  same-trailers : trailer_page area (length t) m ≡ trailer_page area (length u) n
-  same-trailers = sym ct.trailer ∙ ap (λ k. pages (first_page area + k)) same_count ∙ cu.trailer
+  same_trailers : trailer_page area (length t) m ≡ trailer_page area (length u) n
+  same_trailers = sym ct.trailer ∙ ap (λ k. pages (first_page area + k)) same_count ∙ cu.trailer
 
   same_length : length t ≡ length u
   same_length =
@@ -70,8 +70,8 @@ module _ (pages : ℕ → State) (area : Area) (t u : List Entry) (m n : ℕ) (p
       let hu : length u < 65536 = omega (arith, pu.few) in
       let x : Trailer = record { area = area; pages = length t } in
       let y : Trailer = record { area = area; pages = length u } in
-      head x y (same-cells trailer_bytes (λ z. refl) ProperTrailer same_trailer (x ∷ []) (y ∷ []) refl (ht, tt) (hu, tt)
-      (held_bytes (trailer_note (length t) m) (trailer_note (length u) n) (trailer_data area (length t)) (trailer_data area (length u)) same-trailers))
+      head x y (same_cells trailer_bytes (λ z. refl) ProperTrailer same_trailer (x ∷ []) (y ∷ []) refl (ht, tt) (hu, tt)
+      (held_bytes (trailer_note (length t) m) (trailer_note (length u) n) (trailer_data area (length t)) (trailer_data area (length u)) same_trailers))
     where
       head : (x y : Trailer) → ◌≡◌ {A = List Trailer} (x ∷ []) (y ∷ []) → x.pages ≡ y.pages
       head x y e = let f : x ≡ y = cc in ap (λ z. z.pages) f
@@ -86,12 +86,12 @@ module _ (pages : ℕ → State) (area : Area) (t u : List Entry) (m n : ℕ) (p
 
   same_number : m ≡ n
   same_number =
-      ap (λ z. z.2) (held_note (trailer_note (length t) m) (trailer_note (length u) n) (trailer_data area (length t)) (trailer_data area (length u)) same-trailers)
+      ap (λ z. z.2) (held_note (trailer_note (length t) m) (trailer_note (length u) n) (trailer_data area (length t)) (trailer_data area (length u)) same_trailers)
 
 pub one_checkpoint : OneCheckpoint
 one_checkpoint pages area t u m n pt pu ct cu = (same_table pages area t u m n pt pu ct cu, same_number pages area t u m n pt pu ct cu)
 
 pub one_log : OneLog
 one_log rs ss pr ps e =
-    same-cells record_bytes record_eight ProperRecord same_record rs ss (ap (λ z. z.1) (held_note (log_note rs) (log_note ss) (log_data rs) (log_data ss) e))
+    same_cells record_bytes record_eight ProperRecord same_record rs ss (ap (λ z. z.1) (held_note (log_note rs) (log_note ss) (log_data rs) (log_data ss) e))
     pr.each ps.each (held_bytes (log_note rs) (log_note ss) (log_data rs) (log_data ss) e)

@@ -63,8 +63,8 @@ decodes_some Proper bytes same xs x p e = (p, e, λ y q f. same y x q p (sym f �
 
 -- Eight bytes as they are read: the last four as one number, and the two before them.
 module _ (xs : List ℕ) (len : length xs ≡ 8) (small : (i : ℕ) → slice_index xs i < 256) (a : ℕ) (ha : a ≡ four_number (slice_index xs 4) (slice_index xs 5) (slice_index xs 6) (slice_index xs 7)) where
-  pub tail-read : xs ≡ slice_index xs 0 ∷ slice_index xs 1 ∷ slice_index xs 2 ∷ slice_index xs 3 ∷ four_bytes a
-  tail-read =
+  pub tail_read : xs ≡ slice_index xs 0 ∷ slice_index xs 1 ∷ slice_index xs 2 ∷ slice_index xs 3 ∷ four_bytes a
+  tail_read =
       let e = eight_listed xs len in
       let f = four_in (slice_index xs 4) (slice_index xs 5) (slice_index xs 6) (slice_index xs 7) (small 4) (small 5) (small 6) (small 7) in
       rw ha (e ∙ ap (λ z. slice_index xs 0 ∷ slice_index xs 1 ∷ slice_index xs 2 ∷ slice_index xs 3 ∷ z) f)

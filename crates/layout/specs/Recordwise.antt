@@ -7,7 +7,7 @@ use Rattle.layout.specs.declared.records.Record.{Record}
 use Rattle.layout.specs.declared.records.Record.TheVariants.{PutClean, PutDirty, Drop, MarkClean}
 use Rattle.layout.specs.Bytes.{two_bytes, four_bytes}
 use Rattle.layout.specs.Records.{record_cell, record_bytes, ProperRecord}
-use Rattle.layout.specs.Numbers.{two_number, four_number, two_in, two_same, four_same, tail-read}
+use Rattle.layout.specs.Numbers.{two_number, four_number, two_in, two_same, four_same, tail_read}
 
 abbrev page_of : ℕ → DataPage
 page_of n = record { 0 = n }
@@ -44,11 +44,11 @@ same_record (MarkClean a) (MarkClean b) hr hs e = ap MarkClean (address_same 4 0
 
 -- eight bytes as a record of their kind
 module _ (xs : List ℕ) (len : length xs ≡ 8) (small : (i : ℕ) → slice_index xs i < 256) (k : ℕ) (hk : slice_index_or xs 0 0 ≡ k) (hz : slice_index_or xs 1 0 ≡ 0) (a : ℕ) (ha : a ≡ four_number (slice_index xs 4) (slice_index xs 5) (slice_index xs 6) (slice_index xs 7)) where
-  pub put-read : (p : ℕ) → p ≡ two_number (slice_index xs 2) (slice_index xs 3) → xs ≡ record_cell k p a
-  put-read p hp =
-      let e = tail-read xs len small a ha in
+  pub put_read : (p : ℕ) → p ≡ two_number (slice_index xs 2) (slice_index xs 3) → xs ≡ record_cell k p a
+  put_read p hp =
+      let e = tail_read xs len small a ha in
       let f = two_in (slice_index xs 2) (slice_index xs 3) (four_bytes a) (small 2) (small 3) in
       cc
 
-  pub drop-read : slice_index_or xs 2 0 ≡ 0 → slice_index xs 3 ≡ 0 → xs ≡ record_cell k 0 a
-  drop-read h2 h3 = let e = tail-read xs len small a ha in cc
+  pub drop_read : slice_index_or xs 2 0 ≡ 0 → slice_index xs 3 ≡ 0 → xs ≡ record_cell k 0 a
+  drop_read h2 h3 = let e = tail_read xs len small a ha in cc

@@ -8,8 +8,8 @@ use Rattle.device.specs.Faults.{chip_fault}
 use Rattle.device.specs.Chips.{Note, Pages, page_count, block_of, read_at, read_refusal, Reads, program_at, program_refusal, programmed, Programs, erase_refusal, erased_block, Erases}
 use Rattle.device.specs.Chips.State.{held}
 use Rattle.pair.specs.Halves.{beside, join, Paired, placed_at, keeps_power}
-use Rattle.pair.proofs.Joining.{first_cell, second_cell, first-call, second_call}
-use Rattle.pair.proofs.Refusing.{same_eqb, in_order_lit, page-first, page-second, read_moved, read_lit, program_moved, program_lit, erase_lit, erase-first, erase-second}
+use Rattle.pair.proofs.Joining.{first_cell, second_cell, first_call, second_call}
+use Rattle.pair.proofs.Refusing.{same_eqb, in_order_lit, page_first, page_second, read_moved, read_lit, program_moved, program_lit, erase_lit, erase_first, erase_second}
 
 -- What a call wants of the pair is what it wants of the half, beside the other half as it is.
 
@@ -50,47 +50,47 @@ module _ (on : Bool) (a b a' : Pages) (p : ℕ) (pd : Paired on a b) (o : on ≡
   pub read_first : (buf after : List ℕ) → p < page_count a → (r r' : Result Note Fault) (n : Pages) → r' ≡ placed_at p r → n ≡ join (keeps_power r) a' b
       → Reads a p buf r after a' → Paired (keeps_power r) a' b × Reads (join on a b) p buf r' after n
   read_first buf after l r r' n e u c =
-      first-call on a b (read_refusal (join on a b) p (length buf)) (read_refusal a p (length buf)) p p a.cell (join on a b).cell
+      first_call on a b (read_refusal (join on a b) p (length buf)) (read_refusal a p (length buf)) p p a.cell (join on a b).cell
       (λ note. reads ((join on a b).cell p) ≡ held note after) (after ≡ buf) pd o
-      (page-first (λ q z. read_at q (reads z)) read_moved on a b p (length buf) o (pd.first_on o) l)
+      (page_first (λ q z. read_at q (reads z)) read_moved on a b p (length buf) o (pd.first_on o) l)
       (in_order_lit a.on (eqb (length buf) 512) (ltb p (page_count a)) (chip_fault p PowerOff) p (read_at p (reads (a.cell p))) (pd.first_on o) (read_lit p (reads (a.cell p))))
       a' (λ i. refl) r r' n e u (rw (first_cell on a b p l) c)
 
-  pub program-first : (note : Note) (bytes : List ℕ) → p < page_count a → (r r' : Result (Unit {0}) Fault) (n : Pages) → r' ≡ placed_at p r
+  pub program_first : (note : Note) (bytes : List ℕ) → p < page_count a → (r r' : Result (Unit {0}) Fault) (n : Pages) → r' ≡ placed_at p r
       → n ≡ join (keeps_power r) a' b → Programs a p note bytes r a' → Paired (keeps_power r) a' b × Programs (join on a b) p note bytes r' n
-  program-first note bytes l =
-      first-call on a b (program_refusal (join on a b) p (length bytes)) (program_refusal a p (length bytes)) p p (programmed a p note bytes)
-      (programmed (join on a b) p note bytes) (λ _. Unit {0}) (Unit {0}) pd o (page-first program_at program_moved on a b p (length bytes) o (pd.first_on o) l)
+  program_first note bytes l =
+      first_call on a b (program_refusal (join on a b) p (length bytes)) (program_refusal a p (length bytes)) p p (programmed a p note bytes)
+      (programmed (join on a b) p note bytes) (λ _. Unit {0}) (Unit {0}) pd o (page_first program_at program_moved on a b p (length bytes) o (pd.first_on o) l)
       (in_order_lit a.on (eqb (length bytes) 512) (ltb p (page_count a)) (chip_fault p PowerOff) p (program_at p (a.cell p)) (pd.first_on o) (program_lit p (a.cell p)))
       a' (programmed_first on a b p note bytes l)
 
-  pub erase-in-first : p < a.size → (r r' : Result (Unit {0}) Fault) (n : Pages) → r' ≡ placed_at p r → n ≡ join (keeps_power r) a' b
+  pub erase_in_first : p < a.size → (r r' : Result (Unit {0}) Fault) (n : Pages) → r' ≡ placed_at p r → n ≡ join (keeps_power r) a' b
       → Erases a p r a' → Paired (keeps_power r) a' b × Erases (join on a b) p r' n
-  erase-in-first l =
-      first-call on a b (erase_refusal (join on a b) p) (erase_refusal a p) p p (erased_block a p) (erased_block (join on a b) p) (λ _. Unit {0}) (Unit {0}) pd o
-      (erase-first on a b p o (pd.first_on o) l) (erase_lit a p (pd.first_on o)) a' (erased_first on a b p l)
+  erase_in_first l =
+      first_call on a b (erase_refusal (join on a b) p) (erase_refusal a p) p p (erased_block a p) (erased_block (join on a b) p) (λ _. Unit {0}) (Unit {0}) pd o
+      (erase_first on a b p o (pd.first_on o) l) (erase_lit a p (pd.first_on o)) a' (erased_first on a b p l)
 
 -- A call in the second half, at its place k.
 module _ (on : Bool) (a b b' : Pages) (p k : ℕ) (pd : Paired on a b) (o : on ≡ true) where
-  pub read-second : (buf after : List ℕ) → p ≡ page_count a + k → (r r' : Result Note Fault) (n : Pages) → r' ≡ placed_at p r → n ≡ join (keeps_power r) a b'
+  pub read_second : (buf after : List ℕ) → p ≡ page_count a + k → (r r' : Result Note Fault) (n : Pages) → r' ≡ placed_at p r → n ≡ join (keeps_power r) a b'
       → Reads b k buf r after b' → Paired (keeps_power r) a b' × Reads (join on a b) p buf r' after n
-  read-second buf after s r r' n e u c =
+  read_second buf after s r r' n e u c =
       second_call on a b (read_refusal (join on a b) p (length buf)) (read_refusal b k (length buf)) p k b.cell (join on a b).cell
       (λ note. reads ((join on a b).cell p) ≡ held note after) (after ≡ buf) pd o
-      (page-second (λ q z. read_at q (reads z)) read_moved on a b p (length buf) o k (pd.second_on o) s)
+      (page_second (λ q z. read_at q (reads z)) read_moved on a b p (length buf) o k (pd.second_on o) s)
       (in_order_lit b.on (eqb (length buf) 512) (ltb k (page_count b)) (chip_fault k PowerOff) k (read_at k (reads (b.cell k))) (pd.second_on o) (read_lit k (reads (b.cell k))))
       b' (λ i. refl) r r' n e u (rw (second_cell on a b p k s) c)
 
-  pub program-second : (note : Note) (bytes : List ℕ) → p ≡ page_count a + k → (r r' : Result (Unit {0}) Fault) (n : Pages) → r' ≡ placed_at p r
+  pub program_second : (note : Note) (bytes : List ℕ) → p ≡ page_count a + k → (r r' : Result (Unit {0}) Fault) (n : Pages) → r' ≡ placed_at p r
       → n ≡ join (keeps_power r) a b' → Programs b k note bytes r b' → Paired (keeps_power r) a b' × Programs (join on a b) p note bytes r' n
-  program-second note bytes s =
+  program_second note bytes s =
       second_call on a b (program_refusal (join on a b) p (length bytes)) (program_refusal b k (length bytes)) p k (programmed b k note bytes)
-      (programmed (join on a b) p note bytes) (λ _. Unit {0}) (Unit {0}) pd o (page-second program_at program_moved on a b p (length bytes) o k (pd.second_on o) s)
+      (programmed (join on a b) p note bytes) (λ _. Unit {0}) (Unit {0}) pd o (page_second program_at program_moved on a b p (length bytes) o k (pd.second_on o) s)
       (in_order_lit b.on (eqb (length bytes) 512) (ltb k (page_count b)) (chip_fault k PowerOff) k (program_at k (b.cell k)) (pd.second_on o) (program_lit k (b.cell k)))
       b' (programmed_second on a b p k note bytes s)
 
-  pub erase-in-second : p ≡ a.size + k → (r r' : Result (Unit {0}) Fault) (n : Pages) → r' ≡ placed_at p r → n ≡ join (keeps_power r) a b'
+  pub erase_in_second : p ≡ a.size + k → (r r' : Result (Unit {0}) Fault) (n : Pages) → r' ≡ placed_at p r → n ≡ join (keeps_power r) a b'
       → Erases b k r b' → Paired (keeps_power r) a b' × Erases (join on a b) p r' n
-  erase-in-second s =
+  erase_in_second s =
       second_call on a b (erase_refusal (join on a b) p) (erase_refusal b k) p k (erased_block b k) (erased_block (join on a b) p) (λ _. Unit {0}) (Unit {0}) pd o
-      (erase-second on a b p o k (pd.second_on o) s) (erase_lit b k (pd.second_on o)) b' (erased_second on a b p k s)
+      (erase_second on a b p o k (pd.second_on o) s) (erase_lit b k (pd.second_on o)) b' (erased_second on a b p k s)

@@ -35,11 +35,11 @@ module _ (E : Cell State → Cell State → Cell State → Type 0) where
   chosen false x w c x' w' c' h h' = h'
 
   -- if it holds of each cell of both halves, then of each cell of the whole
-  pub join-becomes : (on was : Bool) (a b a' b' : Pages) (wa wb want : ℕ → Cell State) → a'.size ≡ a.size → b'.size ≡ b.size
+  pub join_becomes : (on was : Bool) (a b a' b' : Pages) (wa wb want : ℕ → Cell State) → a'.size ≡ a.size → b'.size ≡ b.size
       → ((i : ℕ) → want i ≡ beside (page_count a) wa wb i)
       → ((i : ℕ) → E (a.cell i) (wa i) (a'.cell i)) → ((i : ℕ) → E (b.cell i) (wb i) (b'.cell i))
       → Becomes on (join was a b) (λ i c. E ((join was a b).cell i) (want i) c) (join on a' b')
-  join-becomes on was a b a' b' wa wb want s t w ha hb = record {
+  join_becomes on was a b a' b' wa wb want s t w ha hb = record {
     power = refl;
     size = rw (s, t);
     cells = λ i.
@@ -70,26 +70,26 @@ module _ {T : Type 0} (R H : Option Fault) (p k : ℕ) (m h h' : Pages) (n : Boo
       let off : keeps_power {T = T} (Err f) ≡ false = ap (λ z. not (eqb (refusal_number z.refusal) 1)) l in
       (s, inr (moves ∙ ap (moved p) e, ap (placed p) l, subst (λ z. Becomes false m halted' (n z)) (sym off) (halts b)))
 
-  pub lifted-to : (r r' : Result T Fault) (n' : Pages) → r' ≡ placed_at p r → n' ≡ n (keeps_power r) → Call H (chip_fault k PowerOff) h served halted ok same r h'
+  pub lifted_to : (r r' : Result T Fault) (n' : Pages) → r' ≡ placed_at p r → n' ≡ n (keeps_power r) → Call H (chip_fault k PowerOff) h served halted ok same r h'
       → Call R (chip_fault p PowerOff) m served' halted' ok same r' n'
-  lifted-to r r' n' e u c =
+  lifted_to r r' n' e u c =
       let x : Call R (chip_fault p PowerOff) m served' halted' ok same r' (n (keeps_power r)) =
       subst (λ z. Call R (chip_fault p PowerOff) m served' halted' ok same z (n (keeps_power r))) (sym e) (lifted r c) in
       subst (λ z. Call R (chip_fault p PowerOff) m served' halted' ok same r' z) (sym u) x
 
 -- Calls that leave each cell as wanted or settled early, and on a power failure as before or as wanted.
 module _ {T : Type 0} (on : Bool) (a b : Pages) (R H : Option Fault) (p k : ℕ) (w want : ℕ → Cell State) (ok : T → Type 0) (same : Type 0) (pd : Paired on a b) (o : on ≡ true) (moves : R ≡ moved p H) (power : lit H ≡ true) where
-  pub first-call : (a' : Pages) → ((i : ℕ) → want i ≡ beside (page_count a) w b.cell i)
+  pub first_call : (a' : Pages) → ((i : ℕ) → want i ≡ beside (page_count a) w b.cell i)
       → (r r' : Result T Fault) (n : Pages) → r' ≡ placed_at p r → n ≡ join (keeps_power r) a' b
       → Call H (chip_fault k PowerOff) a (Served w) (Halted a w) ok same r a'
       → Paired (keeps_power r) a' b × Call R (chip_fault p PowerOff) (join on a b) (Served want) (Halted (join on a b) want) ok same r' n
-  first-call a' ws r r' n e v c = (
+  first_call a' ws r r' n e v c = (
     let t = half_after H k a a' (Served w) (Halted a w) ok same r (pd.first_on o) c in
         record { first_on = t.0; second_on = λ _. pd.second_on o; small = rw t.1 pd.small },
-    lifted-to R H p k (join on a b) a a' (λ z. join z a' b) (Served w) (Halted a w) (Served want) (Halted (join on a b) want) ok same moves power
+    lifted_to R H p k (join on a b) a a' (λ z. join z a' b) (Served w) (Halted a w) (Served want) (Halted (join on a b) want) ok same moves power
         (λ u. ap (λ z. join true z b) u ∙ ap (λ z. join z a b) (sym o))
-        (λ s. join-becomes (λ x y z. Early y z) true on a b a' b w b.cell want s.size refl ws s.cells (λ i. inl refl))
-        (λ s. join-becomes (λ x y z. (z ≡ x) ⊎ (z ≡ y)) false on a b a' b w b.cell want s.size refl ws s.cells (λ i. inl refl))
+        (λ s. join_becomes (λ x y z. Early y z) true on a b a' b w b.cell want s.size refl ws s.cells (λ i. inl refl))
+        (λ s. join_becomes (λ x y z. (z ≡ x) ⊎ (z ≡ y)) false on a b a' b w b.cell want s.size refl ws s.cells (λ i. inl refl))
         r r' n e v c,
   )
 
@@ -100,9 +100,9 @@ module _ {T : Type 0} (on : Bool) (a b : Pages) (R H : Option Fault) (p k : ℕ)
   second_call b' ws r r' n e v c = (
     let t = half_after H k b b' (Served w) (Halted b w) ok same r (pd.second_on o) c in
         record { first_on = λ _. pd.first_on o; second_on = t.0; small = rw t.1 pd.small },
-    lifted-to R H p k (join on a b) b b' (λ z. join z a b') (Served w) (Halted b w) (Served want) (Halted (join on a b) want) ok same moves power
+    lifted_to R H p k (join on a b) b b' (λ z. join z a b') (Served w) (Halted b w) (Served want) (Halted (join on a b) want) ok same moves power
         (λ u. ap (λ z. join true a z) u ∙ ap (λ z. join z a b) (sym o))
-        (λ s. join-becomes (λ x y z. Early y z) true on a b a b' a.cell w want refl s.size ws (λ i. inl refl) s.cells)
-        (λ s. join-becomes (λ x y z. (z ≡ x) ⊎ (z ≡ y)) false on a b a b' a.cell w want refl s.size ws (λ i. inl refl) s.cells)
+        (λ s. join_becomes (λ x y z. Early y z) true on a b a b' a.cell w want refl s.size ws (λ i. inl refl) s.cells)
+        (λ s. join_becomes (λ x y z. (z ≡ x) ⊎ (z ≡ y)) false on a b a b' a.cell w want refl s.size ws (λ i. inl refl) s.cells)
         r r' n e v c,
   )

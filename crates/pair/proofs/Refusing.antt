@@ -42,13 +42,13 @@ abbrev pub page_refusal : (ℕ → Cell State → Option Fault) → Pages → �
 page_refusal there m p len = in_order m.on (chip_fault p PowerOff) (eqb len 512) (ltb p (page_count m)) (chip_fault p) (there p (m.cell p))
 
 module _ (there : ℕ → Cell State → Option Fault) (moves : (p k : ℕ) (c : Cell State) → there p c ≡ moved p (there k c)) (on : Bool) (a b : Pages) (p len : ℕ) (o : on ≡ true) where
-  pub page-first : a.on ≡ true → p < page_count a → page_refusal there (join on a b) p len ≡ moved p (page_refusal there a p len)
-  page-first oa l =
+  pub page_first : a.on ≡ true → p < page_count a → page_refusal there (join on a b) p len ≡ moved p (page_refusal there a p len)
+  page_first oa l =
       in_order_moved on a.on (eqb len 512) (ltb p (8 * (a.size + b.size))) (ltb p (page_count a)) p p (there p ((join on a b).cell p)) (there p (a.cell p)) o oa
       (same_ltb p (8 * (a.size + b.size)) p (page_count a) (λ h. omega arith) (λ h. omega arith)) (ap (there p) (first_cell on a b p l) ∙ moves p p (a.cell p))
 
-  pub page-second : (k : ℕ) → b.on ≡ true → p ≡ page_count a + k → page_refusal there (join on a b) p len ≡ moved p (page_refusal there b k len)
-  page-second k ob e =
+  pub page_second : (k : ℕ) → b.on ≡ true → p ≡ page_count a + k → page_refusal there (join on a b) p len ≡ moved p (page_refusal there b k len)
+  page_second k ob e =
       in_order_moved on b.on (eqb len 512) (ltb p (8 * (a.size + b.size))) (ltb k (page_count b)) p k (there p ((join on a b).cell p)) (there k (b.cell k)) o ob
       (same_ltb p (8 * (a.size + b.size)) k (page_count b) (λ h. omega arith) (λ h. omega arith)) (ap (there p) (second_cell on a b p k e) ∙ moves p k (b.cell k))
 
@@ -132,14 +132,14 @@ erase_lit m b o =
     (there_lit b (unsettled_in m.cell b (page_count m)))
 
 module _ (on : Bool) (a b : Pages) (e : ℕ) (o : on ≡ true) where
-  pub erase-first : a.on ≡ true → e < a.size → erase_refusal (join on a b) e ≡ moved e (erase_refusal a e)
-  erase-first oa l =
+  pub erase_first : a.on ≡ true → e < a.size → erase_refusal (join on a b) e ≡ moved e (erase_refusal a e)
+  erase_first oa l =
       in_order_moved on a.on true (ltb e (a.size + b.size)) (ltb e a.size) e e (there_in e (unsettled_in (join on a b).cell e (page_count (join on a b))))
       (there_in e (unsettled_in a.cell e (page_count a))) o oa (same_ltb e (a.size + b.size) e a.size (λ h. omega arith) (λ h. omega arith))
       (ap (there_in e) (unsettled_first on a b e l) ∙ there_moved e e (unsettled_in a.cell e (page_count a)))
 
-  pub erase-second : (k : ℕ) → b.on ≡ true → e ≡ a.size + k → erase_refusal (join on a b) e ≡ moved e (erase_refusal b k)
-  erase-second k ob s =
+  pub erase_second : (k : ℕ) → b.on ≡ true → e ≡ a.size + k → erase_refusal (join on a b) e ≡ moved e (erase_refusal b k)
+  erase_second k ob s =
       in_order_moved on b.on true (ltb e (a.size + b.size)) (ltb k b.size) e k (there_in e (unsettled_in (join on a b).cell e (page_count (join on a b))))
       (there_in k (unsettled_in b.cell k (page_count b))) o ob (same_ltb e (a.size + b.size) k b.size (λ h. omega arith) (λ h. omega arith))
       (ap (there_in e) (unsettled_second on a b e k s) ∙ there_moved e k (unsettled_in b.cell k (page_count b)))

@@ -10,25 +10,25 @@ use Rattle.pair.specs.Halves.{join, Paired}
 
 -- over any two chips, by what they mean
 module _ {P Q : Type 0} (meaning : P → Pages) (meaning' : Q → Pages) where
-  abbrev pub pair-meaning : ChipPair P Q → Pages
-  pair-meaning c = join c.on (meaning c.first) (meaning' c.second)
+  abbrev pub pair_meaning : ChipPair P Q → Pages
+  pair_meaning c = join c.on (meaning c.first) (meaning' c.second)
 
-  abbrev pub Pair-sound : (P → Type 0) → (Q → Type 0) → ChipPair P Q → Type 0
-  Pair-sound sound sound' c = Paired c.on (meaning c.first) (meaning' c.second) × sound c.first × sound' c.second
+  abbrev pub PairSound : (P → Type 0) → (Q → Type 0) → ChipPair P Q → Type 0
+  PairSound sound sound' c = Paired c.on (meaning c.first) (meaning' c.second) × sound c.first × sound' c.second
 
   -- Up to 64 erase blocks make a pair of these very chips, which is off. Above that the chips come back as they were, with number 12.
-  abbrev pub Pair-made : P → Q → Result (ChipPair P Q) (TooLarge P Q) → Type 0
-  Pair-made p q (Ok pair) = ((meaning p).size + (meaning' q).size ≤ 64) × (pair ≡ record { first = p; second = q; on = false })
-  Pair-made p q (Err e) = (64 < (meaning p).size + (meaning' q).size) × (e ≡ record { fault = chip_fault 0 BadGeometry; first = p; second = q })
+  abbrev pub PairMade : P → Q → Result (ChipPair P Q) (TooLarge P Q) → Type 0
+  PairMade p q (Ok pair) = ((meaning p).size + (meaning' q).size ≤ 64) × (pair ≡ record { first = p; second = q; on = false })
+  PairMade p q (Err e) = (64 < (meaning p).size + (meaning' q).size) × (e ≡ record { fault = chip_fault 0 BadGeometry; first = p; second = q })
 
   -- such a pair is sound, and it means the two chips joined, off
-  abbrev pub Pair-opens : (P → Type 0) → (Q → Type 0) → P → Q → Result (ChipPair P Q) (TooLarge P Q) → Type 0
-  Pair-opens sound sound' p q (Ok pair) = Pair-sound sound sound' pair × (pair-meaning pair ≡ join false (meaning p) (meaning' q))
-  Pair-opens sound sound' p q (Err e) = Unit {0}
+  abbrev pub PairOpens : (P → Type 0) → (Q → Type 0) → P → Q → Result (ChipPair P Q) (TooLarge P Q) → Type 0
+  PairOpens sound sound' p q (Ok pair) = PairSound sound sound' pair × (pair_meaning pair ≡ join false (meaning p) (meaning' q))
+  PairOpens sound sound' p q (Err e) = Unit {0}
 
   -- A call of the first half and, only if that is served, of the second. `does` says what the call may do to a chip.
-  abbrev pub In-turn : (Pages → Result (Unit {0}) Fault → Pages → Type 0) → ChipPair P Q → Result (Unit {0}) Fault → ChipPair P Q → Type 0
-  In-turn does c (Ok x) d = does (meaning c.first) (Ok x) (meaning d.first) × does (meaning' c.second) (Ok x) (meaning' d.second)
-  In-turn does c (Err f) d =
+  abbrev pub InTurn : (Pages → Result (Unit {0}) Fault → Pages → Type 0) → ChipPair P Q → Result (Unit {0}) Fault → ChipPair P Q → Type 0
+  InTurn does c (Ok x) d = does (meaning c.first) (Ok x) (meaning d.first) × does (meaning' c.second) (Ok x) (meaning' d.second)
+  InTurn does c (Err f) d =
       (does (meaning c.first) (Err f) (meaning d.first) × (d.second ≡ c.second))
       ⊎ (does (meaning c.first) (Ok tt) (meaning d.first) × does (meaning' c.second) (Err f) (meaning' d.second))

@@ -2,7 +2,7 @@
 ghost use Rattle.std.specs.Prelude.{◌≡◌, ◌+◌, ◌<◌, true, is_ok};
 ghost use Rattle.device.specs.Chips.{page_count, Reads, Programs, Erases, Syncs, Powers};
 ghost use Rattle.pair.specs.Halves.{join, placed_at, keeps_power, PageLies, BlockLies};
-ghost use Rattle.pair.specs.Pairs.{pair-meaning, Pair-sound, Pair-made, Pair-opens, In-turn};
+ghost use Rattle.pair.specs.Pairs.{pair_meaning, PairSound, PairMade, PairOpens, InTurn};
 
 use super::halves::{Half, at_place, pages, power_off, still_on};
 use device::{Chip, ChipPage, EraseBlock, Fault, Layer, Refusal};
@@ -27,8 +27,8 @@ impl<P: Chip, Q: Chip> ChipPair<P, Q> {
     // Joins two chips, or gives both back if they have more than 64 erase blocks.
     pub fn new(first: P, second: Q) -> Result<ChipPair<P, Q>, TooLarge<P, Q>>
         requires { (P.Chip.sound first) × (Q.Chip.sound second) }
-        ensures made { Pair-made P.Chip.meaning Q.Chip.meaning first second result }
-        ensures opens { Pair-opens P.Chip.meaning Q.Chip.meaning P.Chip.sound Q.Chip.sound first second result }
+        ensures made { PairMade P.Chip.meaning Q.Chip.meaning first second result }
+        ensures opens { PairOpens P.Chip.meaning Q.Chip.meaning P.Chip.sound Q.Chip.sound first second result }
     {
         if first.blocks() + second.blocks() > 64 {
             return Err(TooLarge {
@@ -97,11 +97,11 @@ impl<P: Chip, Q: Chip> ChipPair<P, Q> {
 
     // A read of a page of the first half.
     fn read_first(&mut self, page: ChipPage, buf: &mut [u8]) -> Result<(u8, u8, u32), Fault>
-        requires sound { Pair-sound P.Chip.meaning Q.Chip.meaning P.Chip.sound Q.Chip.sound self.old }
+        requires sound { PairSound P.Chip.meaning Q.Chip.meaning P.Chip.sound Q.Chip.sound self.old }
         requires power { self.old.on ≡ true }
         requires lies { page.0 < page_count (P.Chip.meaning self.old.first) }
-        ensures sound { Pair-sound P.Chip.meaning Q.Chip.meaning P.Chip.sound Q.Chip.sound self.new }
-        ensures rules { Reads (pair-meaning P.Chip.meaning Q.Chip.meaning self.old) page.0 buf.old result buf.new (pair-meaning P.Chip.meaning Q.Chip.meaning self.new) }
+        ensures sound { PairSound P.Chip.meaning Q.Chip.meaning P.Chip.sound Q.Chip.sound self.new }
+        ensures rules { Reads (pair_meaning P.Chip.meaning Q.Chip.meaning self.old) page.0 buf.old result buf.new (pair_meaning P.Chip.meaning Q.Chip.meaning self.new) }
     {
         let answer = self.first.read(page, buf);
         self.report(answer, page.0)
@@ -114,11 +114,11 @@ impl<P: Chip, Q: Chip> ChipPair<P, Q> {
         own: ChipPage,
         buf: &mut [u8],
     ) -> Result<(u8, u8, u32), Fault>
-        requires sound { Pair-sound P.Chip.meaning Q.Chip.meaning P.Chip.sound Q.Chip.sound self.old }
+        requires sound { PairSound P.Chip.meaning Q.Chip.meaning P.Chip.sound Q.Chip.sound self.old }
         requires power { self.old.on ≡ true }
         requires lies { page.0 ≡ page_count (P.Chip.meaning self.old.first) + own.0 }
-        ensures sound { Pair-sound P.Chip.meaning Q.Chip.meaning P.Chip.sound Q.Chip.sound self.new }
-        ensures rules { Reads (pair-meaning P.Chip.meaning Q.Chip.meaning self.old) page.0 buf.old result buf.new (pair-meaning P.Chip.meaning Q.Chip.meaning self.new) }
+        ensures sound { PairSound P.Chip.meaning Q.Chip.meaning P.Chip.sound Q.Chip.sound self.new }
+        ensures rules { Reads (pair_meaning P.Chip.meaning Q.Chip.meaning self.old) page.0 buf.old result buf.new (pair_meaning P.Chip.meaning Q.Chip.meaning self.new) }
     {
         let answer = self.second.read(own, buf);
         self.report(answer, page.0)
@@ -131,11 +131,11 @@ impl<P: Chip, Q: Chip> ChipPair<P, Q> {
         note: (u8, u8, u32),
         bytes: &[u8],
     ) -> Result<(), Fault>
-        requires sound { Pair-sound P.Chip.meaning Q.Chip.meaning P.Chip.sound Q.Chip.sound self.old }
+        requires sound { PairSound P.Chip.meaning Q.Chip.meaning P.Chip.sound Q.Chip.sound self.old }
         requires power { self.old.on ≡ true }
         requires lies { page.0 < page_count (P.Chip.meaning self.old.first) }
-        ensures sound { Pair-sound P.Chip.meaning Q.Chip.meaning P.Chip.sound Q.Chip.sound self.new }
-        ensures rules { Programs (pair-meaning P.Chip.meaning Q.Chip.meaning self.old) page.0 note bytes.now result (pair-meaning P.Chip.meaning Q.Chip.meaning self.new) }
+        ensures sound { PairSound P.Chip.meaning Q.Chip.meaning P.Chip.sound Q.Chip.sound self.new }
+        ensures rules { Programs (pair_meaning P.Chip.meaning Q.Chip.meaning self.old) page.0 note bytes.now result (pair_meaning P.Chip.meaning Q.Chip.meaning self.new) }
     {
         let answer = self.first.program(page, note, bytes);
         self.report(answer, page.0)
@@ -149,11 +149,11 @@ impl<P: Chip, Q: Chip> ChipPair<P, Q> {
         note: (u8, u8, u32),
         bytes: &[u8],
     ) -> Result<(), Fault>
-        requires sound { Pair-sound P.Chip.meaning Q.Chip.meaning P.Chip.sound Q.Chip.sound self.old }
+        requires sound { PairSound P.Chip.meaning Q.Chip.meaning P.Chip.sound Q.Chip.sound self.old }
         requires power { self.old.on ≡ true }
         requires lies { page.0 ≡ page_count (P.Chip.meaning self.old.first) + own.0 }
-        ensures sound { Pair-sound P.Chip.meaning Q.Chip.meaning P.Chip.sound Q.Chip.sound self.new }
-        ensures rules { Programs (pair-meaning P.Chip.meaning Q.Chip.meaning self.old) page.0 note bytes.now result (pair-meaning P.Chip.meaning Q.Chip.meaning self.new) }
+        ensures sound { PairSound P.Chip.meaning Q.Chip.meaning P.Chip.sound Q.Chip.sound self.new }
+        ensures rules { Programs (pair_meaning P.Chip.meaning Q.Chip.meaning self.old) page.0 note bytes.now result (pair_meaning P.Chip.meaning Q.Chip.meaning self.new) }
     {
         let answer = self.second.program(own, note, bytes);
         self.report(answer, page.0)
@@ -161,11 +161,11 @@ impl<P: Chip, Q: Chip> ChipPair<P, Q> {
 
     // An erase of an erase block of the first half.
     fn erase_first(&mut self, block: EraseBlock) -> Result<(), Fault>
-        requires sound { Pair-sound P.Chip.meaning Q.Chip.meaning P.Chip.sound Q.Chip.sound self.old }
+        requires sound { PairSound P.Chip.meaning Q.Chip.meaning P.Chip.sound Q.Chip.sound self.old }
         requires power { self.old.on ≡ true }
         requires lies { block.0 < (P.Chip.meaning self.old.first).size }
-        ensures sound { Pair-sound P.Chip.meaning Q.Chip.meaning P.Chip.sound Q.Chip.sound self.new }
-        ensures rules { Erases (pair-meaning P.Chip.meaning Q.Chip.meaning self.old) block.0 result (pair-meaning P.Chip.meaning Q.Chip.meaning self.new) }
+        ensures sound { PairSound P.Chip.meaning Q.Chip.meaning P.Chip.sound Q.Chip.sound self.new }
+        ensures rules { Erases (pair_meaning P.Chip.meaning Q.Chip.meaning self.old) block.0 result (pair_meaning P.Chip.meaning Q.Chip.meaning self.new) }
     {
         let answer = self.first.erase(block);
         self.report(answer, block.0)
@@ -173,11 +173,11 @@ impl<P: Chip, Q: Chip> ChipPair<P, Q> {
 
     // An erase of an erase block that is the erase block `own` of the second half.
     fn erase_second(&mut self, block: EraseBlock, own: EraseBlock) -> Result<(), Fault>
-        requires sound { Pair-sound P.Chip.meaning Q.Chip.meaning P.Chip.sound Q.Chip.sound self.old }
+        requires sound { PairSound P.Chip.meaning Q.Chip.meaning P.Chip.sound Q.Chip.sound self.old }
         requires power { self.old.on ≡ true }
         requires lies { block.0 ≡ (P.Chip.meaning self.old.first).size + own.0 }
-        ensures sound { Pair-sound P.Chip.meaning Q.Chip.meaning P.Chip.sound Q.Chip.sound self.new }
-        ensures rules { Erases (pair-meaning P.Chip.meaning Q.Chip.meaning self.old) block.0 result (pair-meaning P.Chip.meaning Q.Chip.meaning self.new) }
+        ensures sound { PairSound P.Chip.meaning Q.Chip.meaning P.Chip.sound Q.Chip.sound self.new }
+        ensures rules { Erases (pair_meaning P.Chip.meaning Q.Chip.meaning self.old) block.0 result (pair_meaning P.Chip.meaning Q.Chip.meaning self.new) }
     {
         let answer = self.second.erase(own);
         self.report(answer, block.0)
@@ -185,11 +185,11 @@ impl<P: Chip, Q: Chip> ChipPair<P, Q> {
 
     // Syncs the halves, the second only if the first was synced; whether the pair is on stays.
     fn sync_halves(&mut self) -> Result<(), Fault>
-        requires sound { Pair-sound P.Chip.meaning Q.Chip.meaning P.Chip.sound Q.Chip.sound self.old }
+        requires sound { PairSound P.Chip.meaning Q.Chip.meaning P.Chip.sound Q.Chip.sound self.old }
         requires power { self.old.on ≡ true }
-        ensures sound { Pair-sound P.Chip.meaning Q.Chip.meaning P.Chip.sound Q.Chip.sound (record { first = self.new.first; second = self.new.second; on = keeps_power result }) }
-        ensures turn { In-turn P.Chip.meaning Q.Chip.meaning Syncs self.old result self.new }
-        ensures rules { Syncs (pair-meaning P.Chip.meaning Q.Chip.meaning self.old) result (join (keeps_power result) (P.Chip.meaning self.new.first) (Q.Chip.meaning self.new.second)) }
+        ensures sound { PairSound P.Chip.meaning Q.Chip.meaning P.Chip.sound Q.Chip.sound (record { first = self.new.first; second = self.new.second; on = keeps_power result }) }
+        ensures turn { InTurn P.Chip.meaning Q.Chip.meaning Syncs self.old result self.new }
+        ensures rules { Syncs (pair_meaning P.Chip.meaning Q.Chip.meaning self.old) result (join (keeps_power result) (P.Chip.meaning self.new.first) (Q.Chip.meaning self.new.second)) }
     {
         self.first.sync()?;
         self.second.sync()
@@ -197,10 +197,10 @@ impl<P: Chip, Q: Chip> ChipPair<P, Q> {
 
     // Powers the halves on, the second only if the first is; whether the pair is on stays.
     fn power_halves(&mut self) -> Result<(), Fault>
-        requires { Pair-sound P.Chip.meaning Q.Chip.meaning P.Chip.sound Q.Chip.sound self.old }
-        ensures sound { Pair-sound P.Chip.meaning Q.Chip.meaning P.Chip.sound Q.Chip.sound (record { first = self.new.first; second = self.new.second; on = is_ok result }) }
-        ensures turn { In-turn P.Chip.meaning Q.Chip.meaning Powers self.old result self.new }
-        ensures rules { Powers (pair-meaning P.Chip.meaning Q.Chip.meaning self.old) result (join (is_ok result) (P.Chip.meaning self.new.first) (Q.Chip.meaning self.new.second)) }
+        requires { PairSound P.Chip.meaning Q.Chip.meaning P.Chip.sound Q.Chip.sound self.old }
+        ensures sound { PairSound P.Chip.meaning Q.Chip.meaning P.Chip.sound Q.Chip.sound (record { first = self.new.first; second = self.new.second; on = is_ok result }) }
+        ensures turn { InTurn P.Chip.meaning Q.Chip.meaning Powers self.old result self.new }
+        ensures rules { Powers (pair_meaning P.Chip.meaning Q.Chip.meaning self.old) result (join (is_ok result) (P.Chip.meaning self.new.first) (Q.Chip.meaning self.new.second)) }
     {
         self.first.power_on()?;
         self.second.power_on()
@@ -208,9 +208,9 @@ impl<P: Chip, Q: Chip> ChipPair<P, Q> {
 }
 
 impl<P: Chip, Q: Chip> Chip for ChipPair<P, Q> {
-    ghost meaning = { pair-meaning P.Chip.meaning Q.Chip.meaning };
+    ghost meaning = { pair_meaning P.Chip.meaning Q.Chip.meaning };
 
-    ghost sound = { Pair-sound P.Chip.meaning Q.Chip.meaning P.Chip.sound Q.Chip.sound };
+    ghost sound = { PairSound P.Chip.meaning Q.Chip.meaning P.Chip.sound Q.Chip.sound };
 
     fn blocks(&self) -> u32 {
         self.first.blocks() + self.second.blocks()
@@ -248,10 +248,10 @@ impl<P: Chip, Q: Chip> Chip for ChipPair<P, Q> {
 
     // The first half, then the second, which is not reached if the first loses power.
     fn sync(&mut self) -> Result<(), Fault>
-        requires { Pair-sound P.Chip.meaning Q.Chip.meaning P.Chip.sound Q.Chip.sound self.old }
-        ensures sound { Pair-sound P.Chip.meaning Q.Chip.meaning P.Chip.sound Q.Chip.sound self.new }
-        ensures rules { Syncs (pair-meaning P.Chip.meaning Q.Chip.meaning self.old) result (pair-meaning P.Chip.meaning Q.Chip.meaning self.new) }
-        ensures turn { self.old.on ≡ true → In-turn P.Chip.meaning Q.Chip.meaning Syncs self.old result self.new }
+        requires { PairSound P.Chip.meaning Q.Chip.meaning P.Chip.sound Q.Chip.sound self.old }
+        ensures sound { PairSound P.Chip.meaning Q.Chip.meaning P.Chip.sound Q.Chip.sound self.new }
+        ensures rules { Syncs (pair_meaning P.Chip.meaning Q.Chip.meaning self.old) result (pair_meaning P.Chip.meaning Q.Chip.meaning self.new) }
+        ensures turn { self.old.on ≡ true → InTurn P.Chip.meaning Q.Chip.meaning Syncs self.old result self.new }
     {
         if !self.on {
             return Err(power_off(0));
@@ -263,10 +263,10 @@ impl<P: Chip, Q: Chip> Chip for ChipPair<P, Q> {
 
     // The first half, then the second, which is not reached if the first loses power.
     fn power_on(&mut self) -> Result<(), Fault>
-        requires { Pair-sound P.Chip.meaning Q.Chip.meaning P.Chip.sound Q.Chip.sound self.old }
-        ensures sound { Pair-sound P.Chip.meaning Q.Chip.meaning P.Chip.sound Q.Chip.sound self.new }
-        ensures rules { Powers (pair-meaning P.Chip.meaning Q.Chip.meaning self.old) result (pair-meaning P.Chip.meaning Q.Chip.meaning self.new) }
-        ensures turn { In-turn P.Chip.meaning Q.Chip.meaning Powers self.old result self.new }
+        requires { PairSound P.Chip.meaning Q.Chip.meaning P.Chip.sound Q.Chip.sound self.old }
+        ensures sound { PairSound P.Chip.meaning Q.Chip.meaning P.Chip.sound Q.Chip.sound self.new }
+        ensures rules { Powers (pair_meaning P.Chip.meaning Q.Chip.meaning self.old) result (pair_meaning P.Chip.meaning Q.Chip.meaning self.new) }
+        ensures turn { InTurn P.Chip.meaning Q.Chip.meaning Powers self.old result self.new }
     {
         let answer = self.power_halves();
         self.on = answer.is_ok();

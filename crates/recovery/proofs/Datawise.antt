@@ -15,22 +15,22 @@ use Rattle.recovery.proofs.Lookwise.{quiet_shown}
 -- a held page whose note is of no data page
 pub not_data : (page : State) (note : Note) (bytes : List ℕ) (a : DiskAddress) → page ≡ held note bytes → ((b : DiskAddress) → note ≡ data_note b.0 → ⊥)
     → IsData page a.0 → ⊥
-not_data page note bytes a e no_one (xs, d) = no_one a (note-of note (data_note a.0) bytes xs (sym e ∙ d))
+not_data page note bytes a e no_one (xs, d) = no_one a (note_of note (data_note a.0) bytes xs (sym e ∙ d))
   where
-    note-of : (m k : Note) (xs ys : List ℕ) → held m xs ≡ held k ys → m ≡ k
-    note-of m k xs ys e = cc
+    note_of : (m k : Note) (xs ys : List ℕ) → held m xs ≡ held k ys → m ≡ k
+    note_of m k xs ys e = cc
 
 module _ (m m₁ : Pages) (t : Table) (i : ℕ) (q : Quiet m m₁) (before : Backed (shown m) t i) where
-  pub backed-more : Backs (shown m₁ (data_page_at i)) (entry_at t i) → Backed (shown m) t (i + 1)
-  backed-more here =
+  pub backed_more : Backs (shown m₁ (data_page_at i)) (entry_at t i) → Backed (shown m) t (i + 1)
+  backed_more here =
       below_more (λ k. marked_at t k ≡ true → IsData (shown m (data_page_at k)) (entry_at t k).address.0) i before
       (λ h. subst (λ page. IsData page (entry_at t i).address.0) (quiet_shown m m₁ q (data_page_at i)) (here h))
 
-  pub backed-stuck : (m₂ : Pages) (u : Table) (f : Fault) → t ≡ u → i < length t
+  pub backed_stuck : (m₂ : Pages) (u : Table) (f : Fault) → t ≡ u → i < length t
       → Lost f m₂ ⊎ ((m₂.on ≡ true) × ((f ≡ cache_fault (data_page_at i) Breach) × (Backs (shown m₁ (data_page_at i)) (entry_at t i) → ⊥)))
       → Lost f m₂ ⊎ ((m₂.on ≡ true) × Unbacked (shown m) u f)
-  backed-stuck m₂ u f same l (inl x) = inl x
-  backed-stuck m₂ u f same l (inr (on, (e, not))) =
+  backed_stuck m₂ u f same l (inl x) = inl x
+  backed_stuck m₂ u f same l (inr (on, (e, not))) =
       let stuck : Backed (shown m) t (suc i) → ⊥ =
       λ h. not (λ mark. subst (λ page. IsData page (entry_at t i).address.0) (sym (quiet_shown m m₁ q (data_page_at i))) (h i (omega arith) mark)) in
       inr (on, subst (λ v. Unbacked (shown m) v f) same (i, e, l, before, stuck))

@@ -72,18 +72,18 @@ distinct_none t i j a li lj hi hj = absurd (omega arith)
 
 -- A search for an address among entries, by whether what is left of them holds it.
 module _ (xs : Table) (i a : ℕ) (m : Bool) (l : i < length xs) (e : m ≡ has_mark (entry_at xs i).mark) (inv : held (drop i xs) a ≡ held xs a) where
-  held-step : held (drop i xs) a ≡ (holds a (entry_at xs i) || held (drop (i + 1) xs) a)
-  held-step = at_drop_more (λ z. held z a) xs i empty l
+  held_step : held (drop i xs) a ≡ (holds a (entry_at xs i) || held (drop (i + 1) xs) a)
+  held_step = at_drop_more (λ z. held z a) xs i empty l
 
   pub held_found : (m && eqb (entry_at xs i).address.0 a) ≡ true → true ≡ held xs a
   held_found h =
       let here : holds a (entry_at xs i) ≡ true = ap (λ z. z && eqb (entry_at xs i).address.0 a) (sym e) ∙ h in
-      sym (or_left (holds a (entry_at xs i)) (held (drop (i + 1) xs) a) here) ∙ sym held-step ∙ inv
+      sym (or_left (holds a (entry_at xs i)) (held (drop (i + 1) xs) a) here) ∙ sym held_step ∙ inv
 
-  pub held-passed : (m && eqb (entry_at xs i).address.0 a) ≡ false → held (drop (i + 1) xs) a ≡ held xs a
-  held-passed h =
+  pub held_passed : (m && eqb (entry_at xs i).address.0 a) ≡ false → held (drop (i + 1) xs) a ≡ held xs a
+  held_passed h =
       let here : holds a (entry_at xs i) ≡ false = ap (λ z. z && eqb (entry_at xs i).address.0 a) (sym e) ∙ h in
-      sym (ap (λ z. z || held (drop (i + 1) xs) a) here) ∙ sym held-step ∙ inv
+      sym (ap (λ z. z || held (drop (i + 1) xs) a) here) ∙ sym held_step ∙ inv
 
 pub held_end : (xs : Table) (i a : ℕ) → length xs ≤ i → held (drop i xs) a ≡ held xs a → false ≡ held xs a
 held_end xs i a l inv = sym (ap (λ z. held z a) (drop_all i xs l)) ∙ inv

@@ -20,15 +20,15 @@ use Rattle.recovery.proofs.Lookwise.{quiet_shown}
 
 -- Records replayed one after another: u is what the first k of them make of t.
 module _ (t u : Table) (rs : List Record) (k : ℕ) (so_far : replayed (Some t) (take k rs) ≡ Some u) where
-  replay-next : (d : Record) → k < length rs → replayed (Some t) (take (k + 1) rs) ≡ apply u (get_or rs k d)
-  replay-next d l =
+  replay_next : (d : Record) → k < length rs → replayed (Some t) (take (k + 1) rs) ≡ apply u (get_or rs k d)
+  replay_next d l =
       ap (replayed (Some t)) (take_more rs k d l) ∙ replayed_append (Some t) (take k rs) (get_or rs k d ∷ []) ∙ ap (λ o. replayed o (get_or rs k d ∷ [])) so_far
 
-  pub replay-more : (v : Table) (d : Record) → k < length rs → apply u (get_or rs k d) ≡ Some v → replayed (Some t) (take (k + 1) rs) ≡ Some v
-  replay-more v d l e = replay-next d l ∙ e
+  pub replay_more : (v : Table) (d : Record) → k < length rs → apply u (get_or rs k d) ≡ Some v → replayed (Some t) (take (k + 1) rs) ≡ Some v
+  replay_more v d l e = replay_next d l ∙ e
 
-  pub replay-stuck : (d : Record) → k < length rs → apply u (get_or rs k d) ≡ None → replayed (Some t) (take (k + 1) rs) ≡ None
-  replay-stuck d l e = replay-next d l ∙ e
+  pub replay_stuck : (d : Record) → k < length rs → apply u (get_or rs k d) ≡ None → replayed (Some t) (take (k + 1) rs) ≡ None
+  replay_stuck d l e = replay_next d l ∙ e
 
 -- a count of records that fit says whether all do
 pub counted_replay : (t u : Table) (rs : List Record) (r n : ℕ) → length rs ≡ n → r ≤ length rs → replayed (Some t) (take r rs) ≡ Some u
@@ -51,10 +51,10 @@ page_replayed note bytes buf after n k t u true e (long, ok, a, b, rest) h = (ta
 page_replayed note bytes buf after n k t u false e (long, ok, a, b, rest) h =
     λ v w.
     let same : take n after ≡ w.0 = one_log (take n after) w.0 ok w.1 (ap₂ held (sym a ∙ w.2) (sym b ∙ w.3)) in
-    not-both v (replayed (Some t) w.0) w.4 (ap (replayed (Some t)) (sym same) ∙ subst (λ z. replayed (Some t) (take z after) ≡ None) e h)
+    not_both v (replayed (Some t) w.0) w.4 (ap (replayed (Some t)) (sym same) ∙ subst (λ z. replayed (Some t) (take z after) ≡ None) e h)
   where
-    not-both : (v : Table) (o : Option Table) → o ≡ Some v → o ≡ None → ⊥
-    not-both v o x y = let z : ◌≡◌ {A = ℕ} 0 1 = cc in omega arith
+    not_both : (v : Table) (o : Option Table) → o ≡ Some v → o ≡ None → ⊥
+    not_both v o x y = let z : ◌≡◌ {A = ℕ} 0 1 = cc in omega arith
 
 pub not_stepped : (page : State) (note : Note) (bytes : List ℕ) (j : ℕ) (t : Table) (n : ℕ) → page ≡ held note bytes → ((u : Table) → Replays note bytes t u → ⊥)
     → (v : Table) (k : ℕ) → LogStep page j t n v k → ⊥
@@ -63,16 +63,16 @@ not_stepped page note bytes j t n e none v k h =
 
 -- Page after page: what a later look saw is what the chip showed at first
 module _ (D : ℕ) (m m₁ : Pages) (area : Area) (j : ℕ) (t u : Table) (n : ℕ) (q : Quiet m m₁) (before : Logged D (shown m) area j t u n) where
-  pub logged-more : (v : Table) (k : ℕ) → LogStep (shown m₁ (log_page_at D area j)) j u n v k → Logged D (shown m) area (j + 1) t v k
-  logged-more v k h =
+  pub logged_more : (v : Table) (k : ℕ) → LogStep (shown m₁ (log_page_at D area j)) j u n v k → Logged D (shown m) area (j + 1) t v k
+  logged_more v k h =
       subst (λ i. Logged D (shown m) area i t v k) (sym (add-one j))
       (u, n, before, subst (λ page. LogStep page j u n v k) (quiet_shown m m₁ q (log_page_at D area j)) h)
 
-  pub logged-stuck : (m₂ : Pages) (f : Fault) → j < log_pages D
+  pub logged_stuck : (m₂ : Pages) (f : Fault) → j < log_pages D
       → Lost f m₂ ⊎ ((m₂.on ≡ true) × ((f ≡ cache_fault (log_page_at D area j) Breach) × ((v : Table) (k : ℕ) → LogStep (shown m₁ (log_page_at D area j)) j u n v k → ⊥)))
       → Lost f m₂ ⊎ ((m₂.on ≡ true) × Unlogged D (shown m) area t f)
-  logged-stuck m₂ f l (inl x) = inl x
-  logged-stuck m₂ f l (inr (on, (e, not))) =
+  logged_stuck m₂ f l (inl x) = inl x
+  logged_stuck m₂ f l (inr (on, (e, not))) =
       inr (
         on,
         (

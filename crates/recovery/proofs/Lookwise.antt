@@ -34,16 +34,16 @@ quiet_shown m n h q = go (h.cells q)
 -- a chip that is on refuses a read of a page that is there only for what the page is
 only_page : (on : Bool) (p : ℕ) (s : State) (f : Fault) → cond on (read_at p s) (Some (chip_fault p PowerOff)) ≡ Some f → (f.refusal ≡ Torn → ⊥) → (f.refusal ≡ Blank → ⊥)
     → (on ≡ false) × (f ≡ chip_fault p PowerOff)
-only_page true p blank f e a b = absurd (b (ap refusal-of (sym e)))
+only_page true p blank f e a b = absurd (b (ap refusal_of (sym e)))
   where
-    refusal-of : Option Fault → Refusal
-    refusal-of None = PowerOff
-    refusal-of (Some x) = x.refusal
-only_page true p torn f e a b = absurd (a (ap refusal-of (sym e)))
+    refusal_of : Option Fault → Refusal
+    refusal_of None = PowerOff
+    refusal_of (Some x) = x.refusal
+only_page true p torn f e a b = absurd (a (ap refusal_of (sym e)))
   where
-    refusal-of : Option Fault → Refusal
-    refusal-of None = PowerOff
-    refusal-of (Some x) = x.refusal
+    refusal_of : Option Fault → Refusal
+    refusal_of None = PowerOff
+    refusal_of (Some x) = x.refusal
 only_page true p (held note bytes) f e a b = grind arith
 only_page false p s f e a b = (refl, cc)
 
@@ -54,8 +54,8 @@ look_lost m n p buf after f l whole (_, inl (e, same)) a b =
     rw (eq-eqb (length buf) 512 whole, lt-ltb p (8 * m.size) l) at e in
     let k = only_page m.on p (reads (m.cell p)) f t a b in
     (quiet_none m n same, (ap (λ z. z.on) same ∙ k.0, (p, k.1)))
-look_lost m n p buf after f l whole (_, inr (e, lost, k)) a b = (record { size = k.size; cells = λ q. as-was (k.cells q) }, (k.power, (p, lost)))
+look_lost m n p buf after f l whole (_, inr (e, lost, k)) a b = (record { size = k.size; cells = λ q. as_was (k.cells q) }, (k.power, (p, lost)))
   where
-    as-was : {q : ℕ} → Halted m m.cell q (n.cell q) → Early (m.cell q) (n.cell q)
-    as-was (inl x) = inl x
-    as-was (inr x) = inl x
+    as_was : {q : ℕ} → Halted m m.cell q (n.cell q) → Early (m.cell q) (n.cell q)
+    as_was (inl x) = inl x
+    as_was (inr x) = inl x

@@ -14,7 +14,7 @@ use Rattle.layout.specs.declared.entries.Entry.{Entry}
 use Rattle.layout.specs.Entries.{entry_bytes, ProperEntry}
 use Rattle.layout.specs.Geometry.{entry_pages, entry_page_at}
 use Rattle.layout.specs.Pages.{entry_part, entry_note, entry_data, EntriesRead}
-use Rattle.layout.proofs.Cellwise.{same-cells}
+use Rattle.layout.proofs.Cellwise.{same_cells}
 use Rattle.layout.specs.Entrywise.{same_entry}
 use Rattle.layout.proofs.Partwise.{same_front}
 use Rattle.table.specs.Tables.{Table, empty, entry_at, holds}
@@ -46,7 +46,7 @@ same_part : (t u : Table) (j : ℕ) → length t ≡ length u → All ProperEntr
 same_part t u j l p q e =
     let same : length (entry_part t j) ≡ length (entry_part u j) =
     length-take 64 (drop (64 * j) t) ∙ ap (min 64) (length-drop (64 * j) t ∙ ap (λ n. n - 64 * j) l ∙ sym (length-drop (64 * j) u)) ∙ sym (length-take 64 (drop (64 * j) u)) in
-    same-cells entry_bytes (λ x. refl) ProperEntry same_entry (entry_part t j) (entry_part u j) same p q e
+    same_cells entry_bytes (λ x. refl) ProperEntry same_entry (entry_part t j) (entry_part u j) same p q e
 
 front_more : (t u : Table) (j : ℕ) → take (64 * j) t ≡ take (64 * j) u → entry_part t j ≡ entry_part u j → take (64 * j + 64) t ≡ take (64 * j + 64) u
 front_more t u j e p = take-add (64 * j) 64 t ∙ ap₂ ◌++◌ e p ∙ sym (take-add (64 * j) 64 u)
@@ -69,14 +69,14 @@ module _ (u : Table) (n end : ℕ) (is : end ≡ min n (length u)) where
       (λ (x : length u ≤ i). absurd (true≢false (sym h ∙ ap (holds a) (get_or_past u i empty x))))
       (cases_lt i (length u))
 
-  pub distinct-cut : DistinctBelow (take end u) (length (take end u)) → DistinctBelow u n
-  distinct-cut h i k a li lk hi hk = h i k a (inside a i li hi) (inside a k lk hk) (move i li hi) (move k lk hk)
+  pub distinct_cut : DistinctBelow (take end u) (length (take end u)) → DistinctBelow u n
+  distinct_cut h i k a li lk hi hk = h i k a (inside a i li hi) (inside a k lk hk) (move i li hi) (move k lk hk)
     where
       move : (q : ℕ) → q < n → holds a (entry_at u q) ≡ true → holds a (entry_at (take end u) q) ≡ true
       move q l x = subst (λ z. holds a z ≡ true) (sym (entry_in_front u end q (omega (arith, inside a q l x, length-take end u)))) x
 
-  pub distinct-uncut : DistinctBelow u n → DistinctBelow (take end u) (length (take end u))
-  distinct-uncut h i k a li lk hi hk = h i k a (omega (arith, length-take end u)) (omega (arith, length-take end u)) (move i li hi) (move k lk hk)
+  pub distinct_uncut : DistinctBelow u n → DistinctBelow (take end u) (length (take end u))
+  distinct_uncut h i k a li lk hi hk = h i k a (omega (arith, length-take end u)) (omega (arith, length-take end u)) (move i li hi) (move k lk hk)
     where
       move : (q : ℕ) → q < length (take end u) → holds a (entry_at (take end u) q) ≡ true → holds a (entry_at u q) ≡ true
       move q l x = subst (λ z. holds a z ≡ true) (entry_in_front u end q (omega (arith, length-take end u))) x
@@ -85,12 +85,12 @@ module _ (u : Table) (n end : ℕ) (is : end ≡ min n (length u)) where
 pub taken_read : (page : State) (note : Note) (bytes : List ℕ) (j : ℕ) (t u : Table) (end : ℕ) (r : Bool) → page ≡ held note bytes → length u ≡ length t
     → end ≡ min (64 * j + 64) (length u) → EntriesRead note bytes j t true u → Decides r (DistinctBelow (take end u) (length (take end u))) → Taken page j t r u
 taken_read page note bytes j t u end true e len is (a, b, c, d, _) (yes-is, no-is) =
-    (e ∙ ap₂ held a b, c, d, len, distinct-cut u (64 * j + 64) end is (yes-is refl))
+    (e ∙ ap₂ held a b, c, d, len, distinct_cut u (64 * j + 64) end is (yes-is refl))
 taken_read page note bytes j t u end false e len is (a, b, c, d, _) (yes-is, no-is) = λ v lv front pv cv dv.
     let same-page : entry_data v j ≡ entry_data u j = sym (held_bytes note (entry_note j) bytes (entry_data v j) (sym e ∙ pv)) ∙ b in
     let part : entry_part v j ≡ entry_part u j = same_part v u j (lv ∙ sym len) cv c same-page in
     let whole : take (64 * j + 64) v ≡ take (64 * j + 64) u = front_more v u j (front ∙ sym d) part in
-    false≢true (no-is (distinct-uncut u (64 * j + 64) end is (distinct_front v u (64 * j + 64) whole dv)))
+    false≢true (no-is (distinct_uncut u (64 * j + 64) end is (distinct_front v u (64 * j + 64) whole dv)))
 
 -- a page that is no entry page
 pub not_read : (page : State) (note : Note) (bytes : List ℕ) (j : ℕ) (t u : Table) → page ≡ held note bytes → EntriesRead note bytes j t false u → Taken page j t false u
@@ -99,8 +99,8 @@ not_read page note bytes j t u e (_, none) v lv front pv cv dv =
 
 -- One page more.
 module _ (D : ℕ) (s : ℕ → State) (area : Area) (j : ℕ) (t : Table) (h : Entered D s area j t) where
-  pub entered-more : (u : Table) → Taken (s (entry_page_at area j)) j t true u → Entered D s area (suc j) u
-  entered-more u (page, proper, front, len, distinct) = record {
+  pub entered_more : (u : Table) → Taken (s (entry_page_at area j)) j t true u → Entered D s area (suc j) u
+  entered_more u (page, proper, front, len, distinct) = record {
     long = len ∙ h.long;
     pages = λ i l. ⊎_elim
         (λ (e : i ≡ j). rw e page)
@@ -120,8 +120,8 @@ module _ (D : ℕ) (s : ℕ → State) (area : Area) (j : ℕ) (t : Table) (h : 
       same_part u t i (k.long ∙ sym h.long) (all_part u i (64 * suc j) (omega arith) k.proper) (all_part t i (64 * j) (omega arith) h.proper)
       (held_bytes (entry_note i) (entry_note i) (entry_data u i) (entry_data t i) (sym (k.pages i (omega arith)) ∙ h.pages i l)))
 
-  pub entered-stuck : (u v : Table) → Taken (s (entry_page_at area j)) j t false u → Entered D s area (suc j) v → ⊥
-  entered-stuck u v none k =
+  pub entered_stuck : (u v : Table) → Taken (s (entry_page_at area j)) j t false u → Entered D s area (suc j) v → ⊥
+  entered_stuck u v none k =
       none v (k.long ∙ sym h.long) (front_of v k) (k.pages j (omega arith)) (all_part v j (64 * suc j) (omega arith) k.proper)
       (subst (DistinctBelow v) next k.distinct)
     where
@@ -144,23 +144,23 @@ reading_none Sound D area m t sound long = record {
 }
 
 module _ (Sound : Type 0) (D : ℕ) (area : Area) (m n k : Pages) (j : ℕ) (t : Table) (inv : Reading Sound D area m n j t) where
-  same-shown : shown n ≡ shown m
-  same-shown = fun_ext (quiet_shown m n inv.quiet)
+  same_shown : shown n ≡ shown m
+  same_shown = fun_ext (quiet_shown m n inv.quiet)
 
-  pub reading-sofar : Entered D (shown n) area j t
-  reading-sofar = subst (λ s. Entered D s area j t) (sym same-shown) inv.sofar
+  pub reading_sofar : Entered D (shown n) area j t
+  reading_sofar = subst (λ s. Entered D s area j t) (sym same_shown) inv.sofar
 
-  pub reading-more : (Sound' : Type 0) (u : Table) → Sound' → Quiet n k → k.on ≡ true → Entered D (shown n) area (suc j) u → Reading Sound' D area m k (j + 1) u
-  reading-more Sound' u sound quiet on h = record {
+  pub reading_more : (Sound' : Type 0) (u : Table) → Sound' → Quiet n k → k.on ≡ true → Entered D (shown n) area (suc j) u → Reading Sound' D area m k (j + 1) u
+  reading_more Sound' u sound quiet on h = record {
     sound = sound;
     quiet = quiet_then m n k inv.quiet quiet;
-    sofar = rw add-one (subst (λ s. Entered D s area (suc j) u) same-shown h);
+    sofar = rw add-one (subst (λ s. Entered D s area (suc j) u) same_shown h);
     lit = λ _. on;
   }
 
-  pub reading-fails : (f : Fault) → j < entry_pages D
+  pub reading_fails : (f : Fault) → j < entry_pages D
       → Lost f k ⊎ ((k.on ≡ true) × ((f ≡ cache_fault (entry_page_at area j) Breach) × ((u : Table) → Entered D (shown n) area (suc j) u → ⊥)))
       → Lost f k ⊎ ((k.on ≡ true) × EntriesFail D (shown m) area f)
-  reading-fails f few (inl x) = inl x
-  reading-fails f few (inr (on, (e, stuck))) =
-      inr (on, (j, t, e, few, inv.sofar, λ u h. stuck u (subst (λ s. Entered D s area (suc j) u) (sym same-shown) h)))
+  reading_fails f few (inl x) = inl x
+  reading_fails f few (inr (on, (e, stuck))) =
+      inr (on, (j, t, e, few, inv.sofar, λ u h. stuck u (subst (λ s. Entered D s area (suc j) u) (sym same_shown) h)))

@@ -23,10 +23,10 @@ page_step lost j v n u ok e = (some_same v u e, refl)
 page_step (written records) j v n u ok e = (records, ok, refl, refl, e, refl)
 
 module _ (D : ℕ) (s : ℕ → State) (area : Area) (n : ℕ) (t : Table) (log : ℕ → LogPage) (w : Written D s area n t log) where
-  logged-written : (j : ℕ) → j ≤ log_pages D → (u : Table) → replayed (Some t) (records_upto log j) ≡ Some u → Logged D s area j t u (next_upto log j)
-  logged-written zero l u e = (some_same t u e, refl)
-  logged-written (suc j) l u e =
-      go (replayed (Some t) (records_upto log j)) refl (logged-written j (omega arith)) (sym (replayed_append (Some t) (records_upto log j) (page_records (log j))) ∙ e)
+  logged_written : (j : ℕ) → j ≤ log_pages D → (u : Table) → replayed (Some t) (records_upto log j) ≡ Some u → Logged D s area j t u (next_upto log j)
+  logged_written zero l u e = (some_same t u e, refl)
+  logged_written (suc j) l u e =
+      go (replayed (Some t) (records_upto log j)) refl (logged_written j (omega arith)) (sym (replayed_append (Some t) (records_upto log j) (page_records (log j))) ∙ e)
     where
       go : (o : Option Table) → replayed (Some t) (records_upto log j) ≡ o
           → ((v : Table) → replayed (Some t) (records_upto log j) ≡ Some v → Logged D s area j t v (next_upto log j))
@@ -42,23 +42,23 @@ module _ (D : ℕ) (s : ℕ → State) (area : Area) (n : ℕ) (t : Table) (log 
             (page_step (log j) j v (next_upto log j) u (w.fit j (omega arith)) (ap (λ o. replayed o (page_records (log j))) (sym f) ∙ k)),
       )
 
-  entered-written : Entered D s area (entry_pages D) t
-  entered-written = record {
+  entered_written : Entered D s area (entry_pages D) t
+  entered_written = record {
     long = w.long;
     pages = w.entries;
     proper = subst (All ProperEntry) (sym (take_all (64 * entry_pages D) t (omega (arith, w.long)))) w.proper.entries;
     distinct = λ i j a _ _ x y. w.proper.distinct i j a x y;
   }
 
-  recovered-written : (u : Table) → replayed (Some t) (records_upto log (log_pages D)) ≡ Some u → Backed s u D
+  recovered_written : (u : Table) → replayed (Some t) (records_upto log (log_pages D)) ≡ Some u → Backed s u D
       → Recovered D s (record { table = u; area = area; number = n; next = next_upto log (log_pages D) })
-  recovered-written u e backed = record {
+  recovered_written u e backed = record {
     active = record { own = record { small = w.small; is = w.trailer }; other = inl w.other };
     base = t;
-    entries = entered-written;
-    log = logged-written (log_pages D) (omega arith) u e;
+    entries = entered_written;
+    log = logged_written (log_pages D) (omega arith) u e;
     backed = backed;
   }
 
 pub reads_back : ReadsBack
-reads_back D few s area n t log u r w e backed h = finds_answer D few s _ r (recovered-written D s area n t log w u e backed) h
+reads_back D few s area n t log u r w e backed h = finds_answer D few s _ r (recovered_written D s area n t log w u e backed) h

@@ -59,15 +59,15 @@ module _ (D : ℕ) (s : ℕ → State) where
     second : f ≡ cache_fault (trailer_at D Two) Breach → (Malformed D s One → ⊥) → Malformed D s Two → Bad-trailers f
     same : f ≡ cache_fault (trailer_at D Two) Breach → (n : ℕ) → Numbered D One (s (trailer_at D One)) n → Numbered D Two (s (trailer_at D Two)) n → Bad-trailers f
 
-  abbrev pub Area-stage : Result (Area × ℕ) Fault → Type 0
-  Area-stage (Ok x) = Active D s x.0 x.1
-  Area-stage (Err f) = Bad-trailers f
+  abbrev pub AreaStage : Result (Area × ℕ) Fault → Type 0
+  AreaStage (Ok x) = Active D s x.0 x.1
+  AreaStage (Err f) = Bad-trailers f
 
   numbered_counts : (area : Area) (n : ℕ) → Numbered D area (s (trailer_at D area)) n → Counts (s (trailer_at D area))
   numbered_counts area n h = subst Counts (sym h.is) refl
 
-  numbered-same : (area : Area) (n m : ℕ) → Numbered D area (s (trailer_at D area)) n → Numbered D area (s (trailer_at D area)) m → n ≡ m
-  numbered-same area n m h k =
+  numbered_same : (area : Area) (n m : ℕ) → Numbered D area (s (trailer_at D area)) n → Numbered D area (s (trailer_at D area)) m → n ≡ m
+  numbered_same area n m h k =
       let e : held (trailer_note D n) (trailer_data area D) ≡ held (trailer_note D m) (trailer_data area D) = sym h.is ∙ k.is in
       number n m e
     where
@@ -85,81 +85,81 @@ module _ (D : ℕ) (s : ℕ → State) where
       go (inr x) = x
 
   -- both areas cannot be active
-  not-both : (n m : ℕ) → Active D s One n → Active D s Two m → ⊥
-  not-both n m h k =
+  not_both : (n m : ℕ) → Active D s One n → Active D s Two m → ⊥
+  not_both n m h k =
       let (b, x, e) = behind One n h (numbered_counts Two m k.own) in
       let (c, y, d) = behind Two m k (numbered_counts One n h.own) in
-      let p : b ≡ m = numbered-same Two b m x k.own in
-      let q : c ≡ n = numbered-same One c n y h.own in
+      let p : b ≡ m = numbered_same Two b m x k.own in
+      let q : c ≡ n = numbered_same One c n y h.own in
       omega (arith, h.own.small, k.own.small)
 
-  active-one : (a b : Area) (n m : ℕ) → Active D s a n → Active D s b m → ◌≡◌ {A = Area × ℕ} (a, n) (b, m)
-  active-one One One n m h k = ap (λ z. (One, z)) (numbered-same One n m h.own k.own)
-  active-one One Two n m h k = absurd (not-both n m h k)
-  active-one Two One n m h k = absurd (not-both m n k h)
-  active-one Two Two n m h k = ap (λ z. (Two, z)) (numbered-same Two n m h.own k.own)
+  active_one : (a b : Area) (n m : ℕ) → Active D s a n → Active D s b m → ◌≡◌ {A = Area × ℕ} (a, n) (b, m)
+  active_one One One n m h k = ap (λ z. (One, z)) (numbered_same One n m h.own k.own)
+  active_one One Two n m h k = absurd (not_both n m h k)
+  active_one Two One n m h k = absurd (not_both m n k h)
+  active_one Two Two n m h k = ap (λ z. (Two, z)) (numbered_same Two n m h.own k.own)
 
-  active-formed : (a b : Area) (n : ℕ) → Active D s a n → Malformed D s b → ⊥
-  active-formed One One n h (c, stuck) = stuck n h.own
-  active-formed One Two n h (c, stuck) = let x = behind One n h c in stuck x.0 x.1
-  active-formed Two One n h (c, stuck) = let x = behind Two n h c in stuck x.0 x.1
-  active-formed Two Two n h (c, stuck) = stuck n h.own
+  active_formed : (a b : Area) (n : ℕ) → Active D s a n → Malformed D s b → ⊥
+  active_formed One One n h (c, stuck) = stuck n h.own
+  active_formed One Two n h (c, stuck) = let x = behind One n h c in stuck x.0 x.1
+  active_formed Two One n h (c, stuck) = let x = behind Two n h c in stuck x.0 x.1
+  active_formed Two Two n h (c, stuck) = stuck n h.own
 
-  active-apart : (a : Area) (n k : ℕ) → Active D s a n → Numbered D One (s (trailer_at D One)) k → Numbered D Two (s (trailer_at D Two)) k → ⊥
-  active-apart One n k h x y =
+  active_apart : (a : Area) (n k : ℕ) → Active D s a n → Numbered D One (s (trailer_at D One)) k → Numbered D Two (s (trailer_at D Two)) k → ⊥
+  active_apart One n k h x y =
       let (b, z, e) = behind One n h (numbered_counts Two k y) in
-      let p : n ≡ k = numbered-same One n k h.own x in
-      let q : b ≡ k = numbered-same Two b k z y in
+      let p : n ≡ k = numbered_same One n k h.own x in
+      let q : b ≡ k = numbered_same Two b k z y in
       omega (arith, x.small)
-  active-apart Two n k h x y =
+  active_apart Two n k h x y =
       let (b, z, e) = behind Two n h (numbered_counts One k x) in
-      let p : n ≡ k = numbered-same Two n k h.own y in
-      let q : b ≡ k = numbered-same One b k z x in
+      let p : n ≡ k = numbered_same Two n k h.own y in
+      let q : b ≡ k = numbered_same One b k z x in
       omega (arith, x.small)
 
-  active-bad : (a : Area) (n : ℕ) (f : Fault) → Active D s a n → Bad-trailers f → ⊥
-  active-bad One n f h (none e x y) = x (numbered_counts One n h.own)
-  active-bad One n f h (first e x) = active-formed One One n h x
-  active-bad One n f h (second e x y) = active-formed One Two n h y
-  active-bad One n f h (same e k x y) = active-apart One n k h x y
-  active-bad Two n f h (none e x y) = y (numbered_counts Two n h.own)
-  active-bad Two n f h (first e x) = active-formed Two One n h x
-  active-bad Two n f h (second e x y) = active-formed Two Two n h y
-  active-bad Two n f h (same e k x y) = active-apart Two n k h x y
+  active_bad : (a : Area) (n : ℕ) (f : Fault) → Active D s a n → Bad-trailers f → ⊥
+  active_bad One n f h (none e x y) = x (numbered_counts One n h.own)
+  active_bad One n f h (first e x) = active_formed One One n h x
+  active_bad One n f h (second e x y) = active_formed One Two n h y
+  active_bad One n f h (same e k x y) = active_apart One n k h x y
+  active_bad Two n f h (none e x y) = y (numbered_counts Two n h.own)
+  active_bad Two n f h (first e x) = active_formed Two One n h x
+  active_bad Two n f h (second e x y) = active_formed Two Two n h y
+  active_bad Two n f h (same e k x y) = active_apart Two n k h x y
 
-  bad-one : (f g : Fault) → Bad-trailers f → Bad-trailers g → f ≡ g
-  bad-one f g (none e x y) (none d z w) = e ∙ sym d
-  bad-one f g (none e x y) (first d z) = absurd (x z.0)
-  bad-one f g (none e x y) (second d z w) = absurd (y w.0)
-  bad-one f g (none e x y) (same d n z w) = absurd (x (numbered_counts One n z))
-  bad-one f g (first e x) (none d z w) = absurd (z x.0)
-  bad-one f g (first e x) (first d z) = e ∙ sym d
-  bad-one f g (first e x) (second d z w) = absurd (z x)
-  bad-one f g (first e x) (same d n z w) = absurd (x.1 n z)
-  bad-one f g (second e x y) (none d z w) = absurd (w y.0)
-  bad-one f g (second e x y) (first d z) = absurd (x z)
-  bad-one f g (second e x y) (second d z w) = e ∙ sym d
-  bad-one f g (second e x y) (same d n z w) = e ∙ sym d
-  bad-one f g (same e n x y) (none d z w) = absurd (z (numbered_counts One n x))
-  bad-one f g (same e n x y) (first d z) = absurd (z.1 n x)
-  bad-one f g (same e n x y) (second d z w) = e ∙ sym d
-  bad-one f g (same e n x y) (same d m z w) = e ∙ sym d
+  bad_one : (f g : Fault) → Bad-trailers f → Bad-trailers g → f ≡ g
+  bad_one f g (none e x y) (none d z w) = e ∙ sym d
+  bad_one f g (none e x y) (first d z) = absurd (x z.0)
+  bad_one f g (none e x y) (second d z w) = absurd (y w.0)
+  bad_one f g (none e x y) (same d n z w) = absurd (x (numbered_counts One n z))
+  bad_one f g (first e x) (none d z w) = absurd (z x.0)
+  bad_one f g (first e x) (first d z) = e ∙ sym d
+  bad_one f g (first e x) (second d z w) = absurd (z x)
+  bad_one f g (first e x) (same d n z w) = absurd (x.1 n z)
+  bad_one f g (second e x y) (none d z w) = absurd (w y.0)
+  bad_one f g (second e x y) (first d z) = absurd (x z)
+  bad_one f g (second e x y) (second d z w) = e ∙ sym d
+  bad_one f g (second e x y) (same d n z w) = e ∙ sym d
+  bad_one f g (same e n x y) (none d z w) = absurd (z (numbered_counts One n x))
+  bad_one f g (same e n x y) (first d z) = absurd (z.1 n x)
+  bad_one f g (same e n x y) (second d z w) = e ∙ sym d
+  bad_one f g (same e n x y) (same d m z w) = e ∙ sym d
 
-  pub area-one : OneResult Area-stage
-  area-one (Ok x) (Ok y) h k = ap Ok (active-one x.0 y.0 x.1 y.1 h k)
-  area-one (Ok x) (Err g) h k = absurd (active-bad x.0 x.1 g h k)
-  area-one (Err f) (Ok y) h k = absurd (active-bad y.0 y.1 f k h)
-  area-one (Err f) (Err g) h k = ap Err (bad-one f g h k)
+  pub area_one : OneResult AreaStage
+  area_one (Ok x) (Ok y) h k = ap Ok (active_one x.0 y.0 x.1 y.1 h k)
+  area_one (Ok x) (Err g) h k = absurd (active_bad x.0 x.1 g h k)
+  area_one (Err f) (Ok y) h k = absurd (active_bad y.0 y.1 f k h)
+  area_one (Err f) (Err g) h k = ap Err (bad_one f g h k)
 
   -- Entries
 
-  abbrev pub Entry-stage : Area → Result Table Fault → Type 0
-  Entry-stage area (Ok t) = Entered D s area (entry_pages D) t
-  Entry-stage area (Err f) = (j : ℕ) × (t : Table) × (f ≡ cache_fault (entry_page_at area j) Breach) × (j < entry_pages D) × Entered D s area j t
+  abbrev pub EntryStage : Area → Result Table Fault → Type 0
+  EntryStage area (Ok t) = Entered D s area (entry_pages D) t
+  EntryStage area (Err f) = (j : ℕ) × (t : Table) × (f ≡ cache_fault (entry_page_at area j) Breach) × (j < entry_pages D) × Entered D s area j t
       × ((u : Table) → Entered D s area (suc j) u → ⊥)
 
-  entered-down : (area : Area) (j k : ℕ) (t : Table) → j ≤ k → Entered D s area k t → Entered D s area j t
-  entered-down area j k t l h =
+  entered_down : (area : Area) (j k : ℕ) (t : Table) → j ≤ k → Entered D s area k t → Entered D s area j t
+  entered_down area j k t l h =
       let below : 64 * j ≤ 64 * k = omega arith in
       record {
         long = h.long;
@@ -181,75 +181,75 @@ module _ (D : ℕ) (s : ℕ → State) where
       trailer = subst (λ k. s (trailer_at k area) ≡ trailer_page area k n) (sym h.long) own.is;
     }
 
-    pub base-one : (t u : Table) → Entered D s area (entry_pages D) t → Entered D s area (entry_pages D) u → t ≡ u
-    base-one t u h k = (one_checkpoint s area t u n n (whole t h) (whole u k) (checkpoint t h) (checkpoint u k)).0
+    pub base_one : (t u : Table) → Entered D s area (entry_pages D) t → Entered D s area (entry_pages D) u → t ≡ u
+    base_one t u h k = (one_checkpoint s area t u n n (whole t h) (whole u k) (checkpoint t h) (checkpoint u k)).0
 
-    pub entry-one : OneResult (Entry-stage area)
-    entry-one (Ok t) (Ok u) h k = ap Ok (base-one t u h k)
-    entry-one (Ok t) (Err g) h (j, v, e, l, k, stuck) = absurd (stuck t (entered-down area (suc j) (entry_pages D) t l h))
-    entry-one (Err f) (Ok u) (j, v, e, l, k, stuck) h = absurd (stuck u (entered-down area (suc j) (entry_pages D) u l h))
-    entry-one (Err f) (Err g) (i, t, e, l, h, stuck) (j, u, d, m, k, halts) =
-        ap Err (first_fault (entry_page_at area) i j f g e d (λ x. stuck u (entered-down area (suc i) j u x k)) (λ x. halts t (entered-down area (suc j) i t x h)))
+    pub entry_one : OneResult (EntryStage area)
+    entry_one (Ok t) (Ok u) h k = ap Ok (base_one t u h k)
+    entry_one (Ok t) (Err g) h (j, v, e, l, k, stuck) = absurd (stuck t (entered_down area (suc j) (entry_pages D) t l h))
+    entry_one (Err f) (Ok u) (j, v, e, l, k, stuck) h = absurd (stuck u (entered_down area (suc j) (entry_pages D) u l h))
+    entry_one (Err f) (Err g) (i, t, e, l, h, stuck) (j, u, d, m, k, halts) =
+        ap Err (first_fault (entry_page_at area) i j f g e d (λ x. stuck u (entered_down area (suc i) j u x k)) (λ x. halts t (entered_down area (suc j) i t x h)))
 
   -- Log
 
-  abbrev pub Log-stage : Area → Table → Result (Table × ℕ) Fault → Type 0
-  Log-stage area t (Ok x) = Logged D s area (log_pages D) t x.0 x.1
-  Log-stage area t (Err f) = (j : ℕ) × (u : Table) × (m : ℕ) × (f ≡ cache_fault (log_page_at D area j) Breach) × (j < log_pages D) × Logged D s area j t u m
+  abbrev pub LogStage : Area → Table → Result (Table × ℕ) Fault → Type 0
+  LogStage area t (Ok x) = Logged D s area (log_pages D) t x.0 x.1
+  LogStage area t (Err f) = (j : ℕ) × (u : Table) × (m : ℕ) × (f ≡ cache_fault (log_page_at D area j) Breach) × (j < log_pages D) × Logged D s area j t u m
       × ((v : Table) (k : ℕ) → LogStep (s (log_page_at D area j)) j u m v k → ⊥)
 
   some_same : (t u : Table) → Some t ≡ Some u → t ≡ u
   some_same t u e = cc
 
-  step-one : (x : State) (j : ℕ) (t : Table) (n : ℕ) (u v : Table) (m k : ℕ) → LogStep x j t n u m → LogStep x j t n v k → (u ≡ v) × (m ≡ k)
-  step-one blank j t n u v m k (e, f) (d, g) = (e ∙ sym d, f ∙ sym g)
-  step-one torn j t n u v m k (e, f) (d, g) = (e ∙ sym d, f ∙ sym g)
-  step-one (held note bytes) j t n u v m k (rs, p, a, b, e, f) (ss, q, c, z, d, g) =
+  step_one : (x : State) (j : ℕ) (t : Table) (n : ℕ) (u v : Table) (m k : ℕ) → LogStep x j t n u m → LogStep x j t n v k → (u ≡ v) × (m ≡ k)
+  step_one blank j t n u v m k (e, f) (d, g) = (e ∙ sym d, f ∙ sym g)
+  step_one torn j t n u v m k (e, f) (d, g) = (e ∙ sym d, f ∙ sym g)
+  step_one (held note bytes) j t n u v m k (rs, p, a, b, e, f) (ss, q, c, z, d, g) =
       let same : rs ≡ ss = one_log rs ss p q (ap₂ held (sym a ∙ c) (sym b ∙ z)) in
       (some_same u v (sym e ∙ ap (replayed (Some t)) same ∙ d), f ∙ sym g)
 
-  pub logged-one : (area : Area) (j : ℕ) (t u v : Table) (m k : ℕ) → Logged D s area j t u m → Logged D s area j t v k → (u ≡ v) × (m ≡ k)
-  logged-one area zero t u v m k (e, f) (d, g) = (e ∙ sym d, f ∙ sym g)
-  logged-one area (suc j) t u v m k (u', m', h, x) (v', k', l, y) =
-      let (a, b) = logged-one area j t u' v' m' k' h l in
-      step-one (s (log_page_at D area j)) j v' k' u v m k (subst₂ (λ w z. LogStep (s (log_page_at D area j)) j w z u m) a b x) y
+  pub logged_one : (area : Area) (j : ℕ) (t u v : Table) (m k : ℕ) → Logged D s area j t u m → Logged D s area j t v k → (u ≡ v) × (m ≡ k)
+  logged_one area zero t u v m k (e, f) (d, g) = (e ∙ sym d, f ∙ sym g)
+  logged_one area (suc j) t u v m k (u', m', h, x) (v', k', l, y) =
+      let (a, b) = logged_one area j t u' v' m' k' h l in
+      step_one (s (log_page_at D area j)) j v' k' u v m k (subst₂ (λ w z. LogStep (s (log_page_at D area j)) j w z u m) a b x) y
 
   -- a log that is read up to k was read up to page j and made a step there
-  logged-step : (area : Area) (k j : ℕ) (t u : Table) (m : ℕ) → j < k → Logged D s area k t u m → (v : Table) × (n : ℕ) × Logged D s area (suc j) t v n
-  logged-step area zero j t u m l h = absurd (omega arith)
-  logged-step area (suc k) j t u m l (v, n, h, x) =
+  logged_step : (area : Area) (k j : ℕ) (t u : Table) (m : ℕ) → j < k → Logged D s area k t u m → (v : Table) × (n : ℕ) × Logged D s area (suc j) t v n
+  logged_step area zero j t u m l h = absurd (omega arith)
+  logged_step area (suc k) j t u m l (v, n, h, x) =
       ⊎_elim
       (λ (e : j ≡ k). (u, m, subst (λ z. Logged D s area (suc z) t u m) (sym e) (v, n, h, x)))
-      (λ (ne : j ≡ k → ⊥). logged-step area k j t v n (omega arith) h)
+      (λ (ne : j ≡ k → ⊥). logged_step area k j t v n (omega arith) h)
       (cases_eq j k)
 
   -- so it did not stop there
   not_stopped : (area : Area) (k j : ℕ) (t u : Table) (m : ℕ) (v : Table) (n : ℕ) → j < k → Logged D s area k t u m → Logged D s area j t v n
       → ((w : Table) (i : ℕ) → LogStep (s (log_page_at D area j)) j v n w i → ⊥) → ⊥
   not_stopped area k j t u m v n l h g stuck =
-      let (w, i, (v', n', g', x)) = logged-step area k j t u m l h in
-      let (a, b) = logged-one area j t v' v n' n g' g in
+      let (w, i, (v', n', g', x)) = logged_step area k j t u m l h in
+      let (a, b) = logged_one area j t v' v n' n g' g in
       stuck w i (subst₂ (λ y z. LogStep (s (log_page_at D area j)) j y z w i) a b x)
 
-  pub log-one : (area : Area) (t : Table) → OneResult (Log-stage area t)
-  log-one area t (Ok x) (Ok y) h k = let (a, b) = logged-one area (log_pages D) t x.0 y.0 x.1 y.1 h k in ap Ok (ap₂ (λ u m. (u, m)) a b)
-  log-one area t (Ok x) (Err g) h (j, u, m, e, l, k, stuck) = absurd (not_stopped area (log_pages D) j t x.0 x.1 u m l h k stuck)
-  log-one area t (Err f) (Ok y) (j, u, m, e, l, k, stuck) h = absurd (not_stopped area (log_pages D) j t y.0 y.1 u m l h k stuck)
-  log-one area t (Err f) (Err g) (i, u, m, e, l, h, stuck) (j, v, n, d, o, k, halts) =
+  pub log_one : (area : Area) (t : Table) → OneResult (LogStage area t)
+  log_one area t (Ok x) (Ok y) h k = let (a, b) = logged_one area (log_pages D) t x.0 y.0 x.1 y.1 h k in ap Ok (ap₂ (λ u m. (u, m)) a b)
+  log_one area t (Ok x) (Err g) h (j, u, m, e, l, k, stuck) = absurd (not_stopped area (log_pages D) j t x.0 x.1 u m l h k stuck)
+  log_one area t (Err f) (Ok y) (j, u, m, e, l, k, stuck) h = absurd (not_stopped area (log_pages D) j t y.0 y.1 u m l h k stuck)
+  log_one area t (Err f) (Err g) (i, u, m, e, l, h, stuck) (j, v, n, d, o, k, halts) =
       ap Err (first_fault (log_page_at D area) i j f g e d (λ x. not_stopped area j i t v n u m x k h stuck) (λ x. not_stopped area i j t u m v n x h k halts))
 
   -- Data pages
 
-  abbrev pub Data-stage : Found → Result Found Fault → Type 0
-  Data-stage found (Ok f) = (f ≡ found) × Backed s found.table D
-  Data-stage found (Err f) = (i : ℕ) × (f ≡ cache_fault (data_page_at i) Breach) × (i < D) × Backed s found.table i × (Backed s found.table (suc i) → ⊥)
+  abbrev pub DataStage : Found → Result Found Fault → Type 0
+  DataStage found (Ok f) = (f ≡ found) × Backed s found.table D
+  DataStage found (Err f) = (i : ℕ) × (f ≡ cache_fault (data_page_at i) Breach) × (i < D) × Backed s found.table i × (Backed s found.table (suc i) → ⊥)
 
-  backed-down : (t : Table) (j k : ℕ) → j ≤ k → Backed s t k → Backed s t j
-  backed-down t j k l h i x y = h i (omega arith) y
+  backed_down : (t : Table) (j k : ℕ) → j ≤ k → Backed s t k → Backed s t j
+  backed_down t j k l h i x y = h i (omega arith) y
 
-  pub data-one : (found : Found) → OneResult (Data-stage found)
-  data-one found (Ok f) (Ok g) (e, h) (d, k) = ap Ok (e ∙ sym d)
-  data-one found (Ok f) (Err g) (e, h) (i, d, l, k, stuck) = absurd (stuck (backed-down found.table (suc i) D l h))
-  data-one found (Err f) (Ok g) (i, d, l, k, stuck) (e, h) = absurd (stuck (backed-down found.table (suc i) D l h))
-  data-one found (Err f) (Err g) (i, e, l, h, stuck) (j, d, m, k, halts) =
-      ap Err (first_fault data_page_at i j f g e d (λ x. stuck (backed-down found.table (suc i) j x k)) (λ x. halts (backed-down found.table (suc j) i x h)))
+  pub data_one : (found : Found) → OneResult (DataStage found)
+  data_one found (Ok f) (Ok g) (e, h) (d, k) = ap Ok (e ∙ sym d)
+  data_one found (Ok f) (Err g) (e, h) (i, d, l, k, stuck) = absurd (stuck (backed_down found.table (suc i) D l h))
+  data_one found (Err f) (Ok g) (i, d, l, k, stuck) (e, h) = absurd (stuck (backed_down found.table (suc i) D l h))
+  data_one found (Err f) (Err g) (i, e, l, h, stuck) (j, d, m, k, halts) =
+      ap Err (first_fault data_page_at i j f g e d (λ x. stuck (backed_down found.table (suc i) j x k)) (λ x. halts (backed_down found.table (suc j) i x h)))

@@ -22,11 +22,11 @@ malformed D page area note bytes e two no_one = (
   subst Counts (sym e) two,
   λ n h.
       let both : held note bytes ≡ held (trailer_note D n) (trailer_data area D) = sym e ∙ h.is in
-      no_one n h.small (note-of note (trailer_note D n) bytes (trailer_data area D) both) (bytes_of note (trailer_note D n) bytes (trailer_data area D) both),
+      no_one n h.small (note_of note (trailer_note D n) bytes (trailer_data area D) both) (bytes_of note (trailer_note D n) bytes (trailer_data area D) both),
 )
   where
-    note-of : (m k : Note) (xs ys : List ℕ) → held m xs ≡ held k ys → m ≡ k
-    note-of m k xs ys e = cc
+    note_of : (m k : Note) (xs ys : List ℕ) → held m xs ≡ held k ys → m ≡ k
+    note_of m k xs ys e = cc
 
     bytes_of : (m k : Note) (xs ys : List ℕ) → held m xs ≡ held k ys → xs ≡ ys
     bytes_of m k xs ys e = cc
@@ -66,15 +66,15 @@ module _ (D : ℕ) (m m₁ m₂ : Pages) (one : Option ℕ) (q : Quiet m m₁) (
   abbrev Second : Result (Option ℕ) Fault → (ℕ → State) → Type 0
   Second r s = Stage (TrailerIs D s Two) (λ f. (f ≡ cache_fault (trailer_at D Two) Breach) × Malformed D s Two) r m₂
 
-  same-shown : shown m₁ ≡ shown m
-  same-shown = fun_ext (quiet_shown m m₁ q)
+  same_shown : shown m₁ ≡ shown m
+  same_shown = fun_ext (quiet_shown m m₁ q)
 
-  pub second-failed : (f : Fault) → Second (Err f) (shown m₁) → Lost f m₂ ⊎ ((m₂.on ≡ true) × Failed D (shown m) f)
-  second-failed f h = second_breach D (shown m) one f m₂ first (subst (Second (Err f)) same-shown h)
+  pub second_failed : (f : Fault) → Second (Err f) (shown m₁) → Lost f m₂ ⊎ ((m₂.on ≡ true) × Failed D (shown m) f)
+  second_failed f h = second_breach D (shown m) one f m₂ first (subst (Second (Err f)) same_shown h)
 
   pub both_found : (two : Option ℕ) (r : Result (Area × ℕ) Fault) → Second (Ok two) (shown m₁) → Chosen D one two r
       → Stage (λ a. Active D (shown m) a.0 a.1) (Failed D (shown m)) r m₂
-  both_found two r h e = let t = subst (Second (Ok two)) same-shown h in trailers_found D (shown m) one two r m₂ t.0 first t.1 e
+  both_found two r h e = let t = subst (Second (Ok two)) same_shown h in trailers_found D (shown m) one two r m₂ t.0 first t.1 e
 
 -- what the page says is what the trailer is
 pub judged_stage : (D : ℕ) (s : ℕ → State) (area : Area) (r : Result (Option ℕ) Fault) (n : Pages) → n.on ≡ true → Judged D area (s (trailer_at D area)) r

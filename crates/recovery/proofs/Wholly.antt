@@ -15,7 +15,7 @@ use Rattle.layout.specs.declared.entries.Mark.TheVariants.{Clean, Dirty}
 use Rattle.layout.specs.Entries.{ProperEntry}
 use Rattle.layout.specs.Geometry.{geometry_refusal, data_pages, entry_pages, log_pages, log_page_at}
 use Rattle.table.specs.Tables.{Table, empty, entry_at, holds, held as is_held_lem, without, cleaned, entered, put, apply, replayed, ProperTable}
-use Rattle.table.proofs.Changing.{made_by, length_without, length-cleaned, length-entered, replayed_breach}
+use Rattle.table.proofs.Changing.{made_by, length_without, length_cleaned, length_entered, replayed_breach}
 use Rattle.recovery.specs.Recovering.{Found, Active, Entered, LogStep, Logged, Backed, Recovered, Failed}
 use Rattle.recovery.specs.Recovering.Failed.{entry_page, log_page, data_page}
 use Rattle.recovery.specs.declared.restored.Restored.{Restored}
@@ -29,13 +29,13 @@ use Rattle.recovery.proofs.Lookwise.{quiet_shown}
 -- Records keep the length of a table.
 
 put_length : (t : Table) (p : ℕ) (mark : Mark) (a : ℕ) (u : Table) → put t p mark a ≡ Some u → length u ≡ length t
-put_length t p mark a u e = let (_, same) = made_by _ (entered t p mark a) u e in ap length (sym same) ∙ length-entered t p mark a
+put_length t p mark a u e = let (_, same) = made_by _ (entered t p mark a) u e in ap length (sym same) ∙ length_entered t p mark a
 
 apply_length : (t : Table) (r : Record) (u : Table) → apply t r ≡ Some u → length u ≡ length t
 apply_length t (PutClean p a) u e = put_length t p.0 Clean a.0 u e
 apply_length t (PutDirty p a) u e = put_length t p.0 Dirty a.0 u e
 apply_length t (Drop a) u e = let (_, same) = made_by (is_held_lem t a.0) (without t a.0) u e in ap length (sym same) ∙ length_without t a.0
-apply_length t (MarkClean a) u e = let (_, same) = made_by (is_held_lem t a.0) (cleaned t a.0) u e in ap length (sym same) ∙ length-cleaned t a.0
+apply_length t (MarkClean a) u e = let (_, same) = made_by (is_held_lem t a.0) (cleaned t a.0) u e in ap length (sym same) ∙ length_cleaned t a.0
 
 some_same : (t u : Table) → Some t ≡ Some u → t ≡ u
 some_same t u e = cc
@@ -72,35 +72,35 @@ entered_proper D s area t h = record {
 
 -- What each stage's breach is to the whole.
 module _ (D : ℕ) (s : ℕ → State) (area : Area) (n : ℕ) (active : Active D s area n) where
-  pub entries-failed : (f : Fault) (k : Pages) → Lost f k ⊎ ((k.on ≡ true) × EntriesFail D s area f) → Lost f k ⊎ ((k.on ≡ true) × Failed D s f)
-  entries-failed f k (inl x) = inl x
-  entries-failed f k (inr (on, (j, t, e, l, h, stuck))) = inr (on, entry_page area n j t e active l h stuck)
+  pub entries_failed : (f : Fault) (k : Pages) → Lost f k ⊎ ((k.on ≡ true) × EntriesFail D s area f) → Lost f k ⊎ ((k.on ≡ true) × Failed D s f)
+  entries_failed f k (inl x) = inl x
+  entries_failed f k (inr (on, (j, t, e, l, h, stuck))) = inr (on, entry_page area n j t e active l h stuck)
 
   module _ (t : Table) (entries : Entered D s area (entry_pages D) t) where
-    pub log-failed : (f : Fault) (k : Pages) → Lost f k ⊎ ((k.on ≡ true) × Unlogged D s area t f) → Lost f k ⊎ ((k.on ≡ true) × Failed D s f)
-    log-failed f k (inl x) = inl x
-    log-failed f k (inr (on, (j, u, m, e, l, h, stuck))) = inr (on, log_page area n j t u m e active l entries h stuck)
+    pub log_failed : (f : Fault) (k : Pages) → Lost f k ⊎ ((k.on ≡ true) × Unlogged D s area t f) → Lost f k ⊎ ((k.on ≡ true) × Failed D s f)
+    log_failed f k (inl x) = inl x
+    log_failed f k (inr (on, (j, u, m, e, l, h, stuck))) = inr (on, log_page area n j t u m e active l entries h stuck)
 
     -- behind the log, with what the data pages showed carried back to the chip as it was at first
     module _ (m₀ m₁ : Pages) (is : shown m₀ ≡ s) (quiet : Quiet m₀ m₁) (u : Table) (m : ℕ) (log : Logged D s area (log_pages D) t u m) where
       same : shown m₁ ≡ s
       same = fun_ext (quiet_shown m₀ m₁ quiet) ∙ is
 
-      pub log-long : length u ≡ D
-      log-long = logged_length D s area (log_pages D) t u m log ∙ entries.long
+      pub log_long : length u ≡ D
+      log_long = logged_length D s area (log_pages D) t u m log ∙ entries.long
 
-      pub data-failed : (f : Fault) (k : Pages) → Lost f k ⊎ ((k.on ≡ true) × Unbacked (shown m₁) u f) → Lost f k ⊎ ((k.on ≡ true) × Failed D s f)
-      data-failed f k (inl x) = inl x
-      data-failed f k (inr (on, (i, e, l, h, stuck))) =
-          inr (on, data_page area n i t u m e active (omega (arith, log-long)) entries log (subst (λ z. Backed z u i) same h) (λ b. stuck (subst (λ z. Backed z u (suc i)) (sym same) b)))
+      pub data_failed : (f : Fault) (k : Pages) → Lost f k ⊎ ((k.on ≡ true) × Unbacked (shown m₁) u f) → Lost f k ⊎ ((k.on ≡ true) × Failed D s f)
+      data_failed f k (inl x) = inl x
+      data_failed f k (inr (on, (i, e, l, h, stuck))) =
+          inr (on, data_page area n i t u m e active (omega (arith, log_long)) entries log (subst (λ z. Backed z u i) same h) (λ b. stuck (subst (λ z. Backed z u (suc i)) (sym same) b)))
 
-      pub all-recovered : Backed (shown m₁) u (length u) → Recovered D s (record { table = u; area = area; number = n; next = m })
-      all-recovered h = record {
+      pub all_recovered : Backed (shown m₁) u (length u) → Recovered D s (record { table = u; area = area; number = n; next = m })
+      all_recovered h = record {
         active = active;
         base = t;
         entries = entries;
         log = log;
-        backed = subst (Backed s u) log-long (subst (λ z. Backed z u (length u)) same h);
+        backed = subst (Backed s u) log_long (subst (λ z. Backed z u (length u)) same h);
       }
 
 -- an array whose front was written over is as long as it was

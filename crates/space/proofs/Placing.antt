@@ -14,7 +14,7 @@ use Rattle.table.specs.Tables.{Table, marked_at}
 use Rattle.recovery.specs.Looking.{shown}
 use Rattle.recovery.specs.Recovering.{Backed}
 use Rattle.crash.specs.Crash.{Holds}
-use Rattle.crash.proofs.Cuts.{first_small, safe-steps}
+use Rattle.crash.proofs.Cuts.{first_small, safe_steps}
 use Rattle.journal.specs.Notes.{Noted}
 use Rattle.journal.specs.Points.{point, Left}
 use Rattle.journal.specs.Ready.{Ready}
@@ -54,31 +54,31 @@ ready_small D m v t ready = omega (arith, ready.large, ready.few)
 
 -- What a program of the blank data page i does, whatever it answers.
 module _ (D i : ℕ) (note : Note) (bytes : List ℕ) (m m' : Pages) (v : Noted) (t : Table) (ready : Ready D m v t) (k : i < D) (free : blank_page (shown m) i ≡ true) where
-  reads-blank : shown m (data_page_at i) ≡ blank
-  reads-blank = blank_is (shown m (data_page_at i)) free
+  reads_blank : shown m (data_page_at i) ≡ blank
+  reads_blank = blank_is (shown m (data_page_at i)) free
 
-  was-blank : m.cell (data_page_at i) ≡ settled blank
-  was-blank = settled_as m (data_page_at i) blank (ready.blanks i k reads-blank) reads-blank
+  was_blank : m.cell (data_page_at i) ≡ settled blank
+  was_blank = settled_as m (data_page_at i) blank (ready.blanks i k reads_blank) reads_blank
 
-  unmarked-apart : (u : Table) (j : ℕ) → marked_at u i ≡ false → marked_at u j ≡ true → data_page_at j ≡ data_page_at i → ⊥
-  unmarked-apart u j a b e = let z : j ≡ i = omega arith in true≢false (sym b ∙ ap (marked_at u) z ∙ a)
+  unmarked_apart : (u : Table) (j : ℕ) → marked_at u i ≡ false → marked_at u j ≡ true → data_page_at j ≡ data_page_at i → ⊥
+  unmarked_apart u j a b e = let z : j ≡ i = omega arith in true≢false (sym b ∙ ap (marked_at u) z ∙ a)
 
-  still-holds : (r : Result (Unit {0}) Fault) → Programs m (data_page_at i) note bytes r m' → Holds D m' v.area v.number t
-  still-holds r call =
-      (safe-steps D (ready_small D m v t ready)).data_page m m' v.area v.number t i note bytes r ready.holds (held_unmarked D m v t i ready k reads-blank) call
+  still_holds : (r : Result (Unit {0}) Fault) → Programs m (data_page_at i) note bytes r m' → Holds D m' v.area v.number t
+  still_holds r call =
+      (safe_steps D (ready_small D m v t ready)).data_page m m' v.area v.number t i note bytes r ready.holds (held_unmarked D m v t i ready k reads_blank) call
 
   -- a settled page other than this one stays
   stays : (r : Result (Unit {0}) Fault) (q : ℕ) → Programs m (data_page_at i) note bytes r m' → (q ≡ data_page_at i → ⊥) → is_unsettled (m.cell q) ≡ false
       → m'.cell q ≡ settled (shown m q)
   stays r q call ne h = program_stays m m' (data_page_at i) note bytes r q (shown m q) call ne (settled_reads (m.cell q) h)
 
-  pub place-left : (r : Result (Unit {0}) Fault) → Programs m (data_page_at i) note bytes r m' → Left D m' (λ x. x ≡ point t (shown m))
-  place-left r call =
-      left_of_holds D m' v.area v.number t (shown m) (still-holds r call)
-      (λ j l mark. stays r (data_page_at j) call (unmarked-apart t j (held_unmarked D m v t i ready k reads-blank) mark) (ready.firm j l mark))
+  pub place_left : (r : Result (Unit {0}) Fault) → Programs m (data_page_at i) note bytes r m' → Left D m' (λ x. x ≡ point t (shown m))
+  place_left r call =
+      left_of_holds D m' v.area v.number t (shown m) (still_holds r call)
+      (λ j l mark. stays r (data_page_at j) call (unmarked_apart t j (held_unmarked D m v t i ready k reads_blank) mark) (ready.firm j l mark))
 
-  pub place-lost : (f : Fault) → length bytes ≡ 512 → Programs m (data_page_at i) note bytes (Err f) m' → Fails m f m'
-  place-lost f whole call = program_lost m m' (data_page_at i) note bytes f ready.power whole (omega (arith, ready.large, ready.enough)) was-blank call
+  pub place_lost : (f : Fault) → length bytes ≡ 512 → Programs m (data_page_at i) note bytes (Err f) m' → Fails m f m'
+  place_lost f whole call = program_lost m m' (data_page_at i) note bytes f ready.power whole (omega (arith, ready.large, ready.enough)) was_blank call
 
   module _ (call : Programs m (data_page_at i) note bytes (Ok tt) m') where
     here : shown m' (data_page_at i) ≡ held note bytes
@@ -87,26 +87,26 @@ module _ (D i : ℕ) (note : Note) (bytes : List ℕ) (m m' : Pages) (v : Noted)
     away : (j : ℕ) → (j ≡ i → ⊥) → shown m' (data_page_at j) ≡ shown m (data_page_at j)
     away j ne = (chip_reads.after_program m m' (data_page_at i) note bytes call).1 (data_page_at j) (λ e. ne (omega arith))
 
-    place-backed : Backed (shown m') v.table D
-    place-backed j l mark =
+    place_backed : Backed (shown m') v.table D
+    place_backed j l mark =
         let (xs, e) = ready.backed j l mark in
-        let none = blank_unmarked D (shown m) v.table i ready.backed k reads-blank in
-        (xs, away j (λ z. unmarked-apart v.table j none mark (ap data_page_at z)) ∙ e)
+        let none = blank_unmarked D (shown m) v.table i ready.backed k reads_blank in
+        (xs, away j (λ z. unmarked_apart v.table j none mark (ap data_page_at z)) ∙ e)
 
-    place-blanks : (j : ℕ) → j < D → shown m' (data_page_at j) ≡ blank → is_unsettled (m'.cell (data_page_at j)) ≡ false
-    place-blanks j l e =
+    place_blanks : (j : ℕ) → j < D → shown m' (data_page_at j) ≡ blank → is_unsettled (m'.cell (data_page_at j)) ≡ false
+    place_blanks j l e =
         ⊎_elim
         (λ (z : j ≡ i). absurd (blank_not_held _ note bytes (ap (λ x. shown m' (data_page_at x)) (sym z) ∙ e) here))
         (λ (ne : j ≡ i → ⊥). ap is_unsettled (stays (Ok tt) (data_page_at j) call (λ z. ne (omega arith)) (ready.blanks j l (sym (away j ne) ∙ e))))
         (cases_eq j i)
 
-    pub place-ready : Ready D m' v t
-    place-ready = record {
+    pub place_ready : Ready D m' v t
+    place_ready = record {
       power = call.2.power;
       enough = subst (λ n. 12 ≤ n) (sym call.2.size) ready.enough;
       few = subst (λ n. n ≤ 64) (sym call.2.size) ready.few;
       large = ready.large ∙ ap data_pages (sym call.2.size);
-      holds = still-holds (Ok tt) call;
+      holds = still_holds (Ok tt) call;
       small = ready.small;
       makes = ready.makes;
       room = ready.room;
@@ -116,13 +116,13 @@ module _ (D i : ℕ) (note : Note) (bytes : List ℕ) (m m' : Pages) (v : Noted)
       ends = ready.ends;
       ahead = λ j a b. program_stays m m' (data_page_at i) note bytes (Ok tt) (log_page_at D v.area j) blank call (λ e. omega (arith, first_small v.area)) (ready.ahead j a b);
       areas = λ p l. ap is_unsettled (stays (Ok tt) p call (λ e. omega arith) (ready.areas p l));
-      firm = λ j l mark. ap is_unsettled (stays (Ok tt) (data_page_at j) call (unmarked-apart t j (held_unmarked D m v t i ready k reads-blank) mark) (ready.firm j l mark));
-      backed = place-backed;
-      blanks = place-blanks;
+      firm = λ j l mark. ap is_unsettled (stays (Ok tt) (data_page_at j) call (unmarked_apart t j (held_unmarked D m v t i ready k reads_blank) mark) (ready.firm j l mark));
+      backed = place_backed;
+      blanks = place_blanks;
     }
 
-    pub place-flags : (f g : ℕ → Bool) → ((j : ℕ) → g j ≡ cond (eqb j i) false (f j)) → ((j : ℕ) → j < D → f j ≡ blank_page (shown m) j) → (j : ℕ) → j < D → g j ≡ blank_page (shown m') j
-    place-flags f g step h j l =
+    pub place_flags : (f g : ℕ → Bool) → ((j : ℕ) → g j ≡ cond (eqb j i) false (f j)) → ((j : ℕ) → j < D → f j ≡ blank_page (shown m) j) → (j : ℕ) → j < D → g j ≡ blank_page (shown m') j
+    place_flags f g step h j l =
         ⊎_elim
         (λ (e : j ≡ i). step j ∙ rw (eq-eqb j i e, e) (sym (ap is_blank here)))
         (λ (ne : j ≡ i → ⊥). step j ∙ rw (ne_eqb j i ne) (h j l ∙ sym (ap is_blank (away j ne))))
@@ -131,35 +131,35 @@ module _ (D i : ℕ) (note : Note) (bytes : List ℕ) (m m' : Pages) (v : Noted)
 -- The whole step: the page and the note as the code has them, and the memory after the page was taken.
 module _ (D i a p : ℕ) (note : Note) (bytes : List ℕ) (m m' : Pages) (v : Noted) (sp : Space) (at : p ≡ data_page_at i) (says : note ≡ data_note a) (k : i < D)
     (free : blank_page (shown m) i ≡ true) where
-  as-data : (r : Result (Unit {0}) Fault) → Programs m p note bytes r m' → Programs m (data_page_at i) (data_note a) bytes r m'
-  as-data r call = subst (λ x. Programs m (data_page_at i) x bytes r m') says (subst (λ q. Programs m q note bytes r m') at call)
+  as_data : (r : Result (Unit {0}) Fault) → Programs m p note bytes r m' → Programs m (data_page_at i) (data_note a) bytes r m'
+  as_data r call = subst (λ x. Programs m (data_page_at i) x bytes r m') says (subst (λ q. Programs m q note bytes r m') at call)
 
-  pub places-lost : (f : Fault) (t : Table) → Keeps D m v sp t → length bytes ≡ 512 → Programs m p note bytes (Err f) m' → (sp' : Space)
+  pub places_lost : (f : Fault) (t : Table) → Keeps D m v sp t → length bytes ≡ 512 → Programs m p note bytes (Err f) m' → (sp' : Space)
       → Places D i a bytes m v sp (Err f) m' sp'
-  places-lost f t kept whole call sp' = (
-    place-lost D i (data_note a) bytes m m' v t kept.ready k free f whole (as-data (Err f) call),
-    λ u keeps. place-left D i (data_note a) bytes m m' v u keeps.ready k free (Err f) (as-data (Err f) call),
+  places_lost f t kept whole call sp' = (
+    place_lost D i (data_note a) bytes m m' v t kept.ready k free f whole (as_data (Err f) call),
+    λ u keeps. place_left D i (data_note a) bytes m m' v u keeps.ready k free (Err f) (as_data (Err f) call),
   )
 
-  pub places-made : (t : Table) → Keeps D m v sp t → Programs m p note bytes (Ok tt) m' → (sp' : Space) → sp'.pages ≡ sp.pages
+  pub places_made : (t : Table) → Keeps D m v sp t → Programs m p note bytes (Ok tt) m' → (sp' : Space) → sp'.pages ≡ sp.pages
       → ((j : ℕ) → get_or (flags sp') j false ≡ cond (eqb j i) false (get_or (flags sp) j false)) → sp'.cursor.0 ≡ past sp.pages i
       → Places D i a bytes m v sp (Ok tt) m' sp'
-  places-made t kept call sp' long each cursor = record {
+  places_made t kept call sp' long each cursor = record {
     size = call.2.size;
     cells = made.2.cells;
-    after = ap (λ s. world-of s sp'.cursor.0) (program_reads m m' (data_page_at i) (data_note a) bytes made)
-        ∙ ap (world-of (placed D i a bytes (world m v sp)).pages) (cursor ∙ ap (λ n. past n i) kept.fits.long);
+    after = ap (λ s. world_of s sp'.cursor.0) (program_reads m m' (data_page_at i) (data_note a) bytes made)
+        ∙ ap (world_of (placed D i a bytes (world m v sp)).pages) (cursor ∙ ap (λ n. past n i) kept.fits.long);
     keeps = λ u keeps. record {
-      ready = place-ready D i (data_note a) bytes m m' v u keeps.ready k free made;
+      ready = place_ready D i (data_note a) bytes m m' v u keeps.ready k free made;
       fits = record {
         long = long ∙ keeps.fits.long;
-        each = place-flags D i (data_note a) bytes m m' v u keeps.ready k free made (λ j. get_or (flags sp) j false) (λ j. get_or (flags sp') j false) each keeps.fits.each;
+        each = place_flags D i (data_note a) bytes m m' v u keeps.ready k free made (λ j. get_or (flags sp) j false) (λ j. get_or (flags sp') j false) each keeps.fits.each;
       };
     };
   }
     where
       made : Programs m (data_page_at i) (data_note a) bytes (Ok tt) m'
-      made = as-data (Ok tt) call
+      made = as_data (Ok tt) call
 
-      world-of : (ℕ → State) → ℕ → World
-      world-of s n = record { pages = s; noted = v; cursor = n }
+      world_of : (ℕ → State) → ℕ → World
+      world_of s n = record { pages = s; noted = v; cursor = n }

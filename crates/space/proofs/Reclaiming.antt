@@ -19,7 +19,7 @@ use Rattle.layout.specs.Laws.{log_page}
 use Rattle.table.specs.Tables.{Table, marked_at}
 use Rattle.recovery.specs.Looking.{shown}
 use Rattle.crash.specs.Crash.{Holds}
-use Rattle.crash.proofs.Cuts.{first_small, safe-steps}
+use Rattle.crash.proofs.Cuts.{first_small, safe_steps}
 use Rattle.journal.specs.Drops.{in_block, spared, dropping}
 use Rattle.journal.specs.Notes.{Noted, in_area, logged_pages, logged, checkpoint_page, checkpoint_pages, checkpointed, next_number, committed_pages, committed}
 use Rattle.journal.specs.Points.{Point, point, Left, Either}
@@ -72,42 +72,42 @@ module _ (D : ℕ) (m : Pages) (v : Noted) (u : Table) (b : ℕ) (ready : Ready 
   outside i k e = let z : true ≡ false = sym k ∙ free i e in grind arith
 
   module _ (m₁ : Pages) (r : Result (Unit {0}) Fault) (erase : Erases m b r m₁) where
-    erased-holds : Holds D m₁ v.area v.number u
-    erased-holds = (safe-steps D small).data_block m m₁ v.area v.number u b r ready.holds behind free erase
+    erased_holds : Holds D m₁ v.area v.number u
+    erased_holds = (safe_steps D small).data_block m m₁ v.area v.number u b r ready.holds behind free erase
 
-    erased-firm : Firm D m₁ u (shown m)
-    erased-firm i l k = erase_stays m m₁ b r (data_page_at i) (shown m (data_page_at i)) erase (outside i k) (settled_as m (data_page_at i) _ (still (data_page_at i)) refl)
+    erased_firm : Firm D m₁ u (shown m)
+    erased_firm i l k = erase_stays m m₁ b r (data_page_at i) (shown m (data_page_at i)) erase (outside i k) (settled_as m (data_page_at i) _ (still (data_page_at i)) refl)
 
-    pub erased-left : Left D m₁ (λ x. x ≡ point u (shown m))
-    erased-left = left_of_holds D m₁ v.area v.number u (shown m) erased-holds erased-firm
+    pub erased_left : Left D m₁ (λ x. x ≡ point u (shown m))
+    erased_left = left_of_holds D m₁ v.area v.number u (shown m) erased_holds erased_firm
 
     module _ (m₂ : Pages) (r₂ : Result (Unit {0}) Fault) (sync : Syncs m₁ r₂ m₂) where
-      synced-holds : Holds D m₂ v.area v.number u
-      synced-holds = (safe-steps D small).syncing m₁ m₂ v.area v.number u r₂ erased-holds sync
+      synced_holds : Holds D m₂ v.area v.number u
+      synced_holds = (safe_steps D small).syncing m₁ m₂ v.area v.number u r₂ erased_holds sync
 
-      pub synced-left : Left D m₂ (λ x. x ≡ point u (shown m))
-      synced-left =
-          left_of_holds D m₂ v.area v.number u (shown m) synced-holds (λ i l k. sync_stays m₁ m₂ r₂ (data_page_at i) (shown m (data_page_at i)) sync (erased-firm i l k))
+      pub synced_left : Left D m₂ (λ x. x ≡ point u (shown m))
+      synced_left =
+          left_of_holds D m₂ v.area v.number u (shown m) synced_holds (λ i l k. sync_stays m₁ m₂ r₂ (data_page_at i) (shown m (data_page_at i)) sync (erased_firm i l k))
 
   module _ (m₁ m₂ : Pages) (erase : Erases m b (Ok tt) m₁) (sync : Syncs m₁ (Ok tt) m₂) where
-    pub wiped-lands : Lands m (erased_pages b (shown m)) m₂
-    wiped-lands =
+    pub wiped_lands : Lands m (erased_pages b (shown m)) m₂
+    wiped_lands =
         let h = sync_lands m₁ m₂ sync in
         record { power = h.power; size = h.size ∙ erase.2.size; cells = λ p. h.cells p ∙ ap (λ s. settled (s p)) (erase_shown m m₁ b erase) }
 
-    wiped-stays : (p : ℕ) → (block_of p ≡ b → ⊥) → m₂.cell p ≡ m.cell p
-    wiped-stays p ne =
-        wiped-lands.cells p
+    wiped_stays : (p : ℕ) → (block_of p ≡ b → ⊥) → m₂.cell p ≡ m.cell p
+    wiped_stays p ne =
+        wiped_lands.cells p
         ∙ ap settled (cond-false (eqb (block_of p) b) blank (shown m p) (ne_eqb (block_of p) b ne))
         ∙ sym (settled_as m p (shown m p) (still p) refl)
 
-    pub wiped-ready : v.table ≡ u → Ready D m₂ v u
-    wiped-ready same = record {
-      power = wiped-lands.power;
-      enough = omega (arith, wiped-lands.size, ready.enough);
-      few = omega (arith, wiped-lands.size, ready.few);
-      large = ready.large ∙ ap data_pages (sym wiped-lands.size);
-      holds = synced-holds m₁ (Ok tt) erase m₂ (Ok tt) sync;
+    pub wiped_ready : v.table ≡ u → Ready D m₂ v u
+    wiped_ready same = record {
+      power = wiped_lands.power;
+      enough = omega (arith, wiped_lands.size, ready.enough);
+      few = omega (arith, wiped_lands.size, ready.few);
+      large = ready.large ∙ ap data_pages (sym wiped_lands.size);
+      holds = synced_holds m₁ (Ok tt) erase m₂ (Ok tt) sync;
       small = ready.small;
       makes = ready.makes;
       room = ready.room;
@@ -115,17 +115,17 @@ module _ (D : ℕ) (m : Pages) (v : Noted) (u : Table) (b : ℕ) (ready : Ready 
       long = ready.long;
       proper = ready.proper;
       ends = ready.ends;
-      ahead = λ k a l. wiped-stays (log_page_at D v.area k) (λ e. omega (arith, first_small v.area)) ∙ ready.ahead k a l;
+      ahead = λ k a l. wiped_stays (log_page_at D v.area k) (λ e. omega (arith, first_small v.area)) ∙ ready.ahead k a l;
       areas = λ p l. settled_all p;
       firm = λ i l k. settled_all (data_page_at i);
       backed = λ i l k.
           let (bytes, e) = ready.backed i l k in
-          (bytes, ap reads (wiped-stays (data_page_at i) (outside i (subst (λ x. marked_at x i ≡ true) same k))) ∙ e);
+          (bytes, ap reads (wiped_stays (data_page_at i) (outside i (subst (λ x. marked_at x i ≡ true) same k))) ∙ e);
       blanks = λ i l k. settled_all (data_page_at i);
     }
       where
         settled_all : AllSettled m₂
-        settled_all = lands_settled m m₂ (erased_pages b (shown m)) wiped-lands
+        settled_all = lands_settled m m₂ (erased_pages b (shown m)) wiped_lands
 
 -- What a commit leaves of the journal and of the data pages.
 
@@ -180,19 +180,19 @@ module _ (D b : ℕ) (m m₁ : Pages) (v v₁ v₂ : Noted) (sp : Space) (first 
   data₁ : (i : ℕ) → shown m₁ (data_page_at i) ≡ shown m (data_page_at i)
   data₁ i = ap (λ s. s (data_page_at i)) (lands_shown m m₁ _ first.0) ∙ committed_data D v (shown m) i
 
-  pub dropped-ready : (t : Table) → Ready D m v t → Ready D m₁ v₂ v.table
-  dropped-ready t h =
+  pub dropped_ready : (t : Table) → Ready D m v t → Ready D m₁ v₂ v.table
+  dropped_ready t h =
       subst (λ x. Ready D m₁ x v.table) (sym after) (dropping_ready D m₁ v₁ v.table b (first.2 t h) (ap (λ x. x.staged) first.1 ∙ committed_staged D v))
 
   -- the number of data pages as the journal has it then
-  pub dropped-requires : (D₂ : ℕ) → D₂ ≡ D → (t : Table) × Keeps D m v sp t → (t : Table) × Ready D₂ m₁ v₂ t
-  dropped-requires D₂ same (t, k) = (v.table, subst (λ d. Ready d m₁ v₂ v.table) (sym same) (dropped-ready t k.ready))
+  pub dropped_requires : (D₂ : ℕ) → D₂ ≡ D → (t : Table) × Keeps D m v sp t → (t : Table) × Ready D₂ m₁ v₂ t
+  dropped_requires D₂ same (t, k) = (v.table, subst (λ d. Ready d m₁ v₂ v.table) (sym same) (dropped_ready t k.ready))
 
-  pub second-fails : (D₂ : ℕ) → D₂ ≡ D → (f : Fault) (m₂ : Pages) (v₃ : Noted) → Commits D₂ m₁ v₂ (Err f) m₂ v₃ → ReclaimFails D b m v sp f m₂
-  second-fails D₂ same f m₂ v₃ call =
+  pub second_fails : (D₂ : ℕ) → D₂ ≡ D → (f : Fault) (m₂ : Pages) (v₃ : Noted) → Commits D₂ m₁ v₂ (Err f) m₂ v₃ → ReclaimFails D b m v sp f m₂
+  second_fails D₂ same f m₂ v₃ call =
       let (fails, left) = subst (λ d. Commits d m₁ v₂ (Err f) m₂ v₃) same call in (
         fails_after m m₁ m₂ f first.0.size fails,
-        λ t k. left_turn D m₂ (Either (point v.table (shown m₁)) (point v₂.table (shown m₁))) (ReclaimPoints b t (world m v sp)) (turn t) (left v.table (dropped-ready t k.ready)),
+        λ t k. left_turn D m₂ (Either (point v.table (shown m₁)) (point v₂.table (shown m₁))) (ReclaimPoints b t (world m v sp)) (turn t) (left v.table (dropped_ready t k.ready)),
       )
     where
       turn : (t : Table) (x : Point) → Either (point v.table (shown m₁)) (point v₂.table (shown m₁)) x
@@ -258,7 +258,7 @@ module _ (D b : ℕ) (m m₂ : Pages) (v v₃ : Noted) (sp : Space) (h : Committ
   settled₂ = lands_settled h.between m₂ _ h.second.0
 
   ready₂ : (t : Table) → Ready D m v t → Ready D m₂ v₃ u
-  ready₂ t k = h.second.2 v.table (dropped-ready D b m h.between v h.before h.staged sp h.first h.after t k)
+  ready₂ t k = h.second.2 v.table (dropped_ready D b m h.between v h.before h.staged sp h.first h.after t k)
 
   free₂ : (i : ℕ) → block_of (data_page_at i) ≡ b → marked_at u i ≡ false
   free₂ i e = ap (λ x. marked_at x i) table_is ∙ spared_in v.table b i e
@@ -276,26 +276,26 @@ module _ (D b : ℕ) (m m₂ : Pages) (v v₃ : Noted) (sp : Space) (h : Committ
   pub erase_fails : (f : Fault) (m₃ : Pages) → Erases m₂ b (Err f) m₃ → ReclaimFails D b m v sp f m₃
   erase_fails f m₃ erase = (
     fails_after m m₂ m₃ f size₂ (erase_lost m₂ m₃ b f h.second.0.power within₂ settled₂ erase),
-    λ t k. turn₂ t m₃ (erased-left D m₂ v₃ u b (ready₂ t k.ready) settled₂ h.behind within₂ free₂ m₃ (Err f) erase),
+    λ t k. turn₂ t m₃ (erased_left D m₂ v₃ u b (ready₂ t k.ready) settled₂ h.behind within₂ free₂ m₃ (Err f) erase),
   )
 
   module _ (m₃ : Pages) (erase : Erases m₂ b (Ok tt) m₃) where
     pub sync_fails : (f : Fault) (m₄ : Pages) → Syncs m₃ (Err f) m₄ → ReclaimFails D b m v sp f m₄
     sync_fails f m₄ sync = (
       fails_after m m₃ m₄ f (erase.2.size ∙ size₂) (sync_lost m₃ m₄ f erase.2.power sync),
-      λ t k. turn₂ t m₄ (synced-left D m₂ v₃ u b (ready₂ t k.ready) settled₂ h.behind within₂ free₂ m₃ (Ok tt) erase m₄ (Err f) sync),
+      λ t k. turn₂ t m₄ (synced_left D m₂ v₃ u b (ready₂ t k.ready) settled₂ h.behind within₂ free₂ m₃ (Ok tt) erase m₄ (Err f) sync),
     )
 
     module _ (m₄ : Pages) (sync : Syncs m₃ (Ok tt) m₄) where
       lands : Lands m₂ (erased_pages b (shown m₂)) m₄
-      lands = wiped-lands D m₂ v₃ u b (ready₂ h.base h.keeps.ready) settled₂ h.behind within₂ free₂ m₃ m₄ erase sync
+      lands = wiped_lands D m₂ v₃ u b (ready₂ h.base h.keeps.ready) settled₂ h.behind within₂ free₂ m₃ m₄ erase sync
 
       table₃ : v₃.table ≡ u
       table₃ = ap (λ x. x.table) h.second.1 ∙ committed_table D h.staged
 
       ready₄ : (t : Table) → Ready D m v t → Ready D m₄ v₃ v₃.table
       ready₄ t k =
-          subst (Ready D m₄ v₃) (sym table₃) (wiped-ready D m₂ v₃ u b (ready₂ t k) settled₂ h.behind within₂ free₂ m₃ m₄ erase sync table₃)
+          subst (Ready D m₄ v₃) (sym table₃) (wiped_ready D m₂ v₃ u b (ready₂ t k) settled₂ h.behind within₂ free₂ m₃ m₄ erase sync table₃)
 
       blank₄ : (i : ℕ) → blank_page (shown m₄) i ≡ in_block b i || blank_page (shown m) i
       blank₄ i =
@@ -305,13 +305,13 @@ module _ (D b : ℕ) (m m₂ : Pages) (v v₃ : Noted) (sp : Space) (h : Committ
           go true x = refl
           go false x = refl
 
-      staged-is : h.staged ≡ dropping b (committed D v)
-      staged-is = h.after ∙ ap (dropping b) h.first.1
+      staged_is : h.staged ≡ dropping b (committed D v)
+      staged_is = h.after ∙ ap (dropping b) h.first.1
 
       pages₄ : shown m₄ ≡ (reclaimed D b (world m v sp)).pages
       pages₄ =
           lands_shown m₂ m₄ _ lands
-          ∙ ap (erased_pages b) (lands_shown h.between m₂ _ h.second.0 ∙ ap₂ (committed_pages D) staged-is (lands_shown m h.between _ h.first.0))
+          ∙ ap (erased_pages b) (lands_shown h.between m₂ _ h.second.0 ∙ ap₂ (committed_pages D) staged_is (lands_shown m h.between _ h.first.0))
 
       module _ (sp' : Space) (long : sp'.pages ≡ sp.pages)
           (each : (i : ℕ) → i < sp.pages → get_or (flags sp') i false ≡ in_block b i || get_or (flags sp) i false) (stays : sp'.cursor ≡ sp.cursor) where
@@ -324,7 +324,7 @@ module _ (D b : ℕ) (m m₂ : Pages) (v v₃ : Noted) (sp : Space) (h : Committ
         world₄ : world m₄ v₃ sp' ≡ reclaimed D b (world m v sp)
         world₄ =
             ap (λ s. record { pages = s; noted = v₃; cursor = sp'.cursor.0 }) pages₄
-            ∙ ap (λ x. record { pages = (reclaimed D b (world m v sp)).pages; noted = x; cursor = sp'.cursor.0 }) (h.second.1 ∙ ap (committed D) staged-is)
+            ∙ ap (λ x. record { pages = (reclaimed D b (world m v sp)).pages; noted = x; cursor = sp'.cursor.0 }) (h.second.1 ∙ ap (committed D) staged_is)
             ∙ ap (λ k. record { pages = (reclaimed D b (world m v sp)).pages; noted = (reclaimed D b (world m v sp)).noted; cursor = k.0 }) stays
 
         pub reclaims : Reclaims D b m v sp (Ok tt) m₄ v₃ sp'

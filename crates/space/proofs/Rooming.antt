@@ -57,8 +57,8 @@ module _ (blocks b : ℕ) (m : Pages) (v : Noted) (sp : Space) (base : (t : Tabl
   full : NoneBlank D (world m v sp)
   full = memory_none D m v sp base.1.fits none
 
-  pub room-fails : (f : Fault) (m' : Pages) (v' : Noted) (sp' : Space) → Reclaims D b m v sp (Err f) m' v' sp' → FindsRoom D blocks m v sp (Err f) m' v' sp'
-  room-fails f m' v' sp' (fails, left) =
+  pub room_fails : (f : Fault) (m' : Pages) (v' : Noted) (sp' : Space) → Reclaims D b m v sp (Err f) m' v' sp' → FindsRoom D blocks m v sp (Err f) m' v' sp'
+  room_fails f m' v' sp' (fails, left) =
       (fails, λ t k. left_more D m' (ReclaimPoints b t (world m v sp)) (RoomPoints D blocks t (world m v sp)) (λ x h. (full, (b, victim, h))) (left t k))
 
   module _ (m' : Pages) (v' : Noted) (sp' : Space) (done : Reclaims D b m v sp (Ok tt) m' v' sp') where
@@ -69,15 +69,15 @@ module _ (blocks b : ℕ) (m : Pages) (v : Noted) (sp : Space) (base : (t : Tabl
     abbrev first : ℕ
     first = 8 * b - 64
 
-    first-inside : first < D
-    first-inside = omega (arith, victim.from, victim.below)
+    first_inside : first < D
+    first_inside = omega (arith, victim.from, victim.below)
 
-    first-blank : blank_page (shown m') first ≡ true
-    first-blank =
+    first_blank : blank_page (shown m') first ≡ true
+    first_blank =
         let here : block_of (data_page_at first) ≡ b = omega (arith, victim.from) in
         ap (λ w. blank_page w.pages first) done.2 ∙ ap is_blank (cond-true (eqb (block_of (data_page_at first)) b) blank _ (eq-eqb (block_of (data_page_at first)) b here))
 
-    pub room-made : (r : Option DataPage) → ByMemory sp' (page_number r) → FindsRoom D blocks m v sp (Ok r) m' v' sp'
-    room-made None h = absurd (both_ways (blank_page (shown m') first) (memory_none D m' v' sp' keeps'.fits h first first-inside) first-blank)
-    room-made (Some i) h =
+    pub room_made : (r : Option DataPage) → ByMemory sp' (page_number r) → FindsRoom D blocks m v sp (Ok r) m' v' sp'
+    room_made None h = absurd (both_ways (blank_page (shown m') first) (memory_none D m' v' sp' keeps'.fits h first first_inside) first_blank)
+    room_made (Some i) h =
         (done.0, inr (full, (b, victim, done.2)), memory_first D m' sp' i.0 keeps'.fits h, (λ t k. (v'.table, done.3 t k, inr refl)), λ p. inr done.1)

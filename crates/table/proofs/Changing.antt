@@ -19,34 +19,34 @@ use Rattle.table.proofs.Tablewise.{holds_parts, holds_from, held_at, unheld_at, 
 -- Entry by entry
 
 module _ (t : Table) (m : Mark) (a : ℕ) where
-  pub length-remarked : length (remarked t m a) ≡ length t
-  length-remarked = length-map t (remarked_entry m a)
+  pub length_remarked : length (remarked t m a) ≡ length t
+  length_remarked = length-map t (remarked_entry m a)
 
-  pub remarked-at : (i : ℕ) → entry_at (remarked t m a) i ≡ remarked_entry m a (entry_at t i)
-  remarked-at i = get_or-map (remarked_entry m a) t i empty
+  pub remarked_at : (i : ℕ) → entry_at (remarked t m a) i ≡ remarked_entry m a (entry_at t i)
+  remarked_at i = get_or-map (remarked_entry m a) t i empty
 
 module _ (t : Table) (a : ℕ) where
   pub length_without : length (without t a) ≡ length t
-  length_without = length-remarked t Empty a
+  length_without = length_remarked t Empty a
 
-  pub length-cleaned : length (cleaned t a) ≡ length t
-  length-cleaned = length-remarked t Clean a
+  pub length_cleaned : length (cleaned t a) ≡ length t
+  length_cleaned = length_remarked t Clean a
 
   pub without_at : (i : ℕ) → entry_at (without t a) i ≡ emptied a (entry_at t i)
-  without_at i = remarked-at t Empty a i
+  without_at i = remarked_at t Empty a i
 
-  pub cleaned-at : (i : ℕ) → entry_at (cleaned t a) i ≡ cleaned_entry a (entry_at t i)
-  cleaned-at i = remarked-at t Clean a i
+  pub cleaned_at : (i : ℕ) → entry_at (cleaned t a) i ≡ cleaned_entry a (entry_at t i)
+  cleaned_at i = remarked_at t Clean a i
 
 module _ (t : Table) (p : ℕ) (m : Mark) (a : ℕ) where
-  pub length-entered : length (entered t p m a) ≡ length t
-  length-entered = length-set (without t a) p (entry m a) ∙ length_without t a
+  pub length_entered : length (entered t p m a) ≡ length t
+  length_entered = length-set (without t a) p (entry m a) ∙ length_without t a
 
   pub entered_here : p < length t → entry_at (entered t p m a) p ≡ entry m a
   entered_here l = get_or-set_same (without t a) p (entry m a) empty (omega (arith, length_without t a))
 
-  pub entered-other : (i : ℕ) → i ≢ p → entry_at (entered t p m a) i ≡ emptied a (entry_at t i)
-  entered-other i ne = get_or-set_other (without t a) p i (entry m a) empty ne ∙ without_at t a i
+  pub entered_other : (i : ℕ) → i ≢ p → entry_at (entered t p m a) i ≡ emptied a (entry_at t i)
+  entered_other i ne = get_or-set_other (without t a) p i (entry m a) empty ne ∙ without_at t a i
 
 -- Who holds an address then
 
@@ -82,12 +82,12 @@ mark_without t a = mark_unheld (without t a) a (held_without t a)
 -- a page that enters an address holds it alone
 pub entered_alone : (t : Table) (p : ℕ) (m : Mark) (a : ℕ) → p < length t → has_mark m ≡ true → AloneAt (entered t p m a) a p
 entered_alone t p m a l h = record {
-  inside = omega (arith, length-entered t p m a);
+  inside = omega (arith, length_entered t p m a);
   here = ap (holds a) (entered_here t p m a l) ∙ holds_from a (entry m a) h refl;
   alone = λ j k.
       ⊎_elim
       (λ same. same)
-      (λ ne. absurd (both_ways (holds a (emptied a (entry_at t j))) (emptied_not a (entry_at t j)) (ap (holds a) (sym (entered-other t p m a j ne)) ∙ k)))
+      (λ ne. absurd (both_ways (holds a (emptied a (entry_at t j))) (emptied_not a (entry_at t j)) (ap (holds a) (sym (entered_other t p m a j ne)) ∙ k)))
       (cases_eq j p);
 }
 
@@ -107,37 +107,37 @@ module _ (t : Table) (a p : ℕ) (only : AloneAt t a p) where
   others : (i : ℕ) → i ≢ p → holds a (entry_at t i) ≡ false
   others i ne = ⊎_elim (λ y. absurd (ne (only.alone i y))) (λ n. n) (cases_Bool (holds a (entry_at t i)))
 
-  pub remarked-one : (m : Mark) → remarked t m a ≡ set t p (entry_with m a)
-  remarked-one m =
+  pub remarked_one : (m : Mark) → remarked t m a ≡ set t p (entry_with m a)
+  remarked_one m =
       let e = entry_with m a in
-      ext_get_or empty (remarked t m a) (set t p e) (length-remarked t m a ∙ sym (length-set t p e))
+      ext_get_or empty (remarked t m a) (set t p e) (length_remarked t m a ∙ sym (length-set t p e))
       (λ i l.
       ⊎_elim
       (λ same.
-      remarked-at t m a i
+      remarked_at t m a i
       ∙ cond-true (holds a (entry_at t i)) e (entry_at t i) (subst (λ k. holds a (entry_at t k) ≡ true) (sym same) only.here)
       ∙ sym (get_or-set_same t p e empty only.inside)
       ∙ ap (entry_at (set t p e)) (sym same))
-      (λ ne. remarked-at t m a i ∙ cond-false (holds a (entry_at t i)) e (entry_at t i) (others i ne) ∙ sym (get_or-set_other t p i e empty ne))
+      (λ ne. remarked_at t m a i ∙ cond-false (holds a (entry_at t i)) e (entry_at t i) (others i ne) ∙ sym (get_or-set_other t p i e empty ne))
       (cases_eq i p))
 
-  pub without-one : without t a ≡ set t p empty
-  without-one = remarked-one Empty
+  pub without_one : without t a ≡ set t p empty
+  without_one = remarked_one Empty
 
-  pub cleaned-one : cleaned t a ≡ set t p (entry Clean a)
-  cleaned-one = remarked-one Clean
+  pub cleaned_one : cleaned t a ≡ set t p (entry Clean a)
+  cleaned_one = remarked_one Clean
 
 module _ (t : Table) (a : ℕ) (unheld : held t a ≡ false) where
-  pub remarked-none : (m : Mark) → remarked t m a ≡ t
-  remarked-none m =
-      ext_get_or empty (remarked t m a) t (length-remarked t m a)
-      (λ i l. remarked-at t m a i ∙ cond-false (holds a (entry_at t i)) (entry_with m a) (entry_at t i) (unheld_at t a i unheld))
+  pub remarked_none : (m : Mark) → remarked t m a ≡ t
+  remarked_none m =
+      ext_get_or empty (remarked t m a) t (length_remarked t m a)
+      (λ i l. remarked_at t m a i ∙ cond-false (holds a (entry_at t i)) (entry_with m a) (entry_at t i) (unheld_at t a i unheld))
 
-  pub without-none : without t a ≡ t
-  without-none = remarked-none Empty
+  pub without_none : without t a ≡ t
+  without_none = remarked_none Empty
 
-  pub cleaned-none : cleaned t a ≡ t
-  cleaned-none = remarked-none Clean
+  pub cleaned_none : cleaned t a ≡ t
+  cleaned_none = remarked_none Clean
 
 -- A proper table stays proper
 
@@ -163,47 +163,47 @@ remarked_entry_proper m a e p =
     (λ h. p)
 
 module _ (t : Table) (proper : ProperTable t) where
-  pub remarked-proper : (m : Mark) (a : ℕ) → ProperTable (remarked t m a)
-  remarked-proper m a =
-      let held-before : (i b : ℕ) → holds b (entry_at (remarked t m a) i) ≡ true → holds b (entry_at t i) ≡ true = λ i b h. remarked_holds m a b (entry_at t i) (ap (holds b) (sym (remarked-at t m a i)) ∙ h) in
+  pub remarked_proper : (m : Mark) (a : ℕ) → ProperTable (remarked t m a)
+  remarked_proper m a =
+      let held-before : (i b : ℕ) → holds b (entry_at (remarked t m a) i) ≡ true → holds b (entry_at t i) ≡ true = λ i b h. remarked_holds m a b (entry_at t i) (ap (holds b) (sym (remarked_at t m a i)) ∙ h) in
       record {
-        entries = All-from_get_or ProperEntry (remarked t m a) empty (λ i l. subst ProperEntry (sym (remarked-at t m a i)) (remarked_entry_proper m a (entry_at t i) (entry_proper t i proper)));
+        entries = All-from_get_or ProperEntry (remarked t m a) empty (λ i l. subst ProperEntry (sym (remarked_at t m a i)) (remarked_entry_proper m a (entry_at t i) (entry_proper t i proper)));
         distinct = λ i j b h k. proper.distinct i j b (held-before i b h) (held-before j b k);
       }
 
-  pub without-proper : (a : ℕ) → ProperTable (without t a)
-  without-proper a = remarked-proper Empty a
+  pub without_proper : (a : ℕ) → ProperTable (without t a)
+  without_proper a = remarked_proper Empty a
 
-  pub cleaned-proper : (a : ℕ) → ProperTable (cleaned t a)
-  cleaned-proper a = remarked-proper Clean a
+  pub cleaned_proper : (a : ℕ) → ProperTable (cleaned t a)
+  cleaned_proper a = remarked_proper Clean a
 
   module _ (p : ℕ) (m : Mark) (a : ℕ) (inside : p < length t) (marked : has_mark m ≡ true) (small : a < 4294967296) where
     abbrev u : Table
     u = entered t p m a
 
-    entered-entry : (i : ℕ) → ProperEntry (entry_at u i)
-    entered-entry i =
+    entered_entry : (i : ℕ) → ProperEntry (entry_at u i)
+    entered_entry i =
         ⊎_elim
         (λ same. subst (λ k. ProperEntry (entry_at u k)) (sym same) (subst ProperEntry (sym (entered_here t p m a inside)) (marked_fits m a marked small)))
-        (λ ne. subst ProperEntry (sym (entered-other t p m a i ne)) (remarked_entry_proper Empty a (entry_at t i) (entry_proper t i proper)))
+        (λ ne. subst ProperEntry (sym (entered_other t p m a i ne)) (remarked_entry_proper Empty a (entry_at t i) (entry_proper t i proper)))
         (cases_eq i p)
 
     -- a page that holds another address held it before
-    entered-before : (i b : ℕ) → (a ≡ b → ⊥) → holds b (entry_at u i) ≡ true → holds b (entry_at t i) ≡ true
-    entered-before i b ne h =
+    entered_before : (i b : ℕ) → (a ≡ b → ⊥) → holds b (entry_at u i) ≡ true → holds b (entry_at t i) ≡ true
+    entered_before i b ne h =
         ⊎_elim
         (λ same. absurd (ne (holds_parts b (entry m a) (ap (holds b) (sym (ap (entry_at u) same ∙ entered_here t p m a inside)) ∙ h)).1))
-        (λ other. remarked_holds Empty a b (entry_at t i) (ap (holds b) (sym (entered-other t p m a i other)) ∙ h))
+        (λ other. remarked_holds Empty a b (entry_at t i) (ap (holds b) (sym (entered_other t p m a i other)) ∙ h))
         (cases_eq i p)
 
     pub entered_proper : ProperTable u
     entered_proper = record {
-      entries = All-from_get_or ProperEntry u empty (λ i l. entered-entry i);
+      entries = All-from_get_or ProperEntry u empty (λ i l. entered_entry i);
       distinct = λ i j b h k.
           let only = entered_alone t p m a inside marked in
           ⊎_elim
           (λ same. only.alone i (subst (λ n. holds n (entry_at u i) ≡ true) (sym same) h) ∙ sym (only.alone j (subst (λ n. holds n (entry_at u j) ≡ true) (sym same) k)))
-          (λ ne. proper.distinct i j b (entered-before i b ne h) (entered-before j b ne k))
+          (λ ne. proper.distinct i j b (entered_before i b ne h) (entered_before j b ne k))
           (cases_eq a b);
     }
 
@@ -222,7 +222,7 @@ put_parts t p m a u h =
 put_keeps : (t : Table) (p : ℕ) (m : Mark) (a : ℕ) (u : Table) → ProperTable t → has_mark m ≡ true → a < 4294967296 → put t p m a ≡ Some u → ProperTable u × (length u ≡ length t)
 put_keeps t p m a u proper marked small h =
     let q = put_parts t p m a u h in
-    (subst ProperTable q.1 (entered_proper t proper p m a q.0 marked small), ap length (sym q.1) ∙ length-entered t p m a)
+    (subst ProperTable q.1 (entered_proper t proper p m a q.0 marked small), ap length (sym q.1) ∙ length_entered t p m a)
 
 -- a record leaves a proper table, as long as it was
 pub apply_keeps : (t : Table) (r : Record) (u : Table) → ProperTable t → ProperRecord r → apply t r ≡ Some u → ProperTable u × (length u ≡ length t)
@@ -230,10 +230,10 @@ apply_keeps t (PutClean p a) u proper small h = put_keeps t p.0 Clean a.0 u prop
 apply_keeps t (PutDirty p a) u proper small h = put_keeps t p.0 Dirty a.0 u proper refl small.1 h
 apply_keeps t (Drop a) u proper small h =
     let q = made_by (held t a.0) (without t a.0) u h in
-    (subst ProperTable q.1 (without-proper t proper a.0), ap length (sym q.1) ∙ length_without t a.0)
+    (subst ProperTable q.1 (without_proper t proper a.0), ap length (sym q.1) ∙ length_without t a.0)
 apply_keeps t (MarkClean a) u proper small h =
     let q = made_by (held t a.0) (cleaned t a.0) u h in
-    (subst ProperTable q.1 (cleaned-proper t proper a.0), ap length (sym q.1) ∙ length-cleaned t a.0)
+    (subst ProperTable q.1 (cleaned_proper t proper a.0), ap length (sym q.1) ∙ length_cleaned t a.0)
 
 next_keeps : (o : Option Table) (r : Record) (n : ℕ) → ((t : Table) → o ≡ Some t → ProperTable t × (length t ≡ n)) → ProperRecord r → (u : Table) → next_table o r ≡ Some u → ProperTable u × (length u ≡ n)
 next_keeps None r n from small u h = absurd (grind arith)
@@ -258,11 +258,11 @@ replayed_breach (r ∷ rs) = replayed_breach rs
 
 pub turns_drop : (t u : Table) (a : ℕ) (r : Bool) → r ≡ held t a → u ≡ without t a → Turns t (cond (held t a) (Some (without t a)) None) r u
 turns_drop t u a true was after = cond-true (held t a) (Some (without t a)) None (sym was) ∙ ap Some (sym after)
-turns_drop t u a false was after = (cond-false (held t a) (Some (without t a)) None (sym was), after ∙ without-none t a (sym was))
+turns_drop t u a false was after = (cond-false (held t a) (Some (without t a)) None (sym was), after ∙ without_none t a (sym was))
 
 pub turns_clean : (t u : Table) (a : ℕ) (r : Bool) → r ≡ held t a → u ≡ cleaned t a → Turns t (cond (held t a) (Some (cleaned t a)) None) r u
 turns_clean t u a true was after = cond-true (held t a) (Some (cleaned t a)) None (sym was) ∙ ap Some (sym after)
-turns_clean t u a false was after = (cond-false (held t a) (Some (cleaned t a)) None (sym was), after ∙ cleaned-none t a (sym was))
+turns_clean t u a false was after = (cond-false (held t a) (Some (cleaned t a)) None (sym was), after ∙ cleaned_none t a (sym was))
 
 -- what a page that may enter an address is
 pub enterable : (t : Table) (p : ℕ) (m : Mark) → may_enter t p m ≡ true → (has_mark m ≡ true) × (p < length t)

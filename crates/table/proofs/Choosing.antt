@@ -18,39 +18,39 @@ use Rattle.table.specs.Views.{page_number}
 -- Going round
 
 module _ (test : ℕ → Bool) (pages cursor : ℕ) where
-  steps-ahead : (i : ℕ) → cursor ≤ i → steps_to pages cursor i ≡ i - cursor
-  steps-ahead i l = cond-true (leb cursor i) (i - cursor) (i + pages - cursor) (le-leb cursor i l)
+  steps_ahead : (i : ℕ) → cursor ≤ i → steps_to pages cursor i ≡ i - cursor
+  steps_ahead i l = cond-true (leb cursor i) (i - cursor) (i + pages - cursor) (le-leb cursor i l)
 
-  steps-round : (i : ℕ) → i < cursor → steps_to pages cursor i ≡ i + pages - cursor
-  steps-round i l = cond-false (leb cursor i) (i - cursor) (i + pages - cursor) (lt-leb cursor i l)
+  steps_round : (i : ℕ) → i < cursor → steps_to pages cursor i ≡ i + pages - cursor
+  steps_round i l = cond-false (leb cursor i) (i - cursor) (i + pages - cursor) (lt-leb cursor i l)
 
-  pub round-ahead : (i : ℕ) → FirstFrom test pages cursor i → FirstRound test pages cursor i
-  round-ahead i first = record {
+  pub round_ahead : (i : ℕ) → FirstFrom test pages cursor i → FirstRound test pages cursor i
+  round_ahead i first = record {
     inside = first.inside;
     found = first.found;
     before = λ j l less.
         ⊎_elim
-        (λ behind. absurd (omega (arith, first.inside, first.from, steps-round j behind, steps-ahead i first.from)))
-        (λ ahead. first.before j ahead (omega (arith, steps-ahead j ahead, steps-ahead i first.from)))
+        (λ behind. absurd (omega (arith, first.inside, first.from, steps_round j behind, steps_ahead i first.from)))
+        (λ ahead. first.before j ahead (omega (arith, steps_ahead j ahead, steps_ahead i first.from)))
         (cases_lt j cursor);
   }
 
-  pub round-behind : (i : ℕ) → FindsFrom test pages cursor None → FirstFrom test pages 0 i → FirstRound test pages cursor i
-  round-behind i none first =
+  pub round_behind : (i : ℕ) → FindsFrom test pages cursor None → FirstFrom test pages 0 i → FirstRound test pages cursor i
+  round_behind i none first =
       let behind : i < cursor = ⊎_elim (λ l. l) (λ ge. absurd (both_ways (test i) (none i ge first.inside) first.found)) (cases_lt i cursor) in
       record {
         inside = first.inside;
         found = first.found;
         before = λ j l less.
             ⊎_elim
-            (λ b. first.before j (omega arith) (omega (arith, steps-round j b, steps-round i behind)))
+            (λ b. first.before j (omega arith) (omega (arith, steps_round j b, steps_round i behind)))
             (λ ahead. none j ahead l)
             (cases_lt j cursor);
       }
 
-  pub round-again : (r : Option DataPage) → FindsFrom test pages cursor None → FindsFrom test pages 0 (page_number r) → FindsRound test pages cursor (page_number r)
-  round-again None none all = λ j l. all j (omega arith) l
-  round-again (Some p) none first = round-behind p.0 none first
+  pub round_again : (r : Option DataPage) → FindsFrom test pages cursor None → FindsFrom test pages 0 (page_number r) → FindsRound test pages cursor (page_number r)
+  round_again None none all = λ j l. all j (omega arith) l
+  round_again (Some p) none first = round_behind p.0 none first
 
 -- Counting
 
@@ -92,8 +92,8 @@ module _ (us : List Usage) (t : Table) (i : ℕ) (whole : length us ≡ 64) (l :
       ∙ ap (λ x. tally (λ e. test e.mark) (take i t) 0 b + cond (x && test (entry_at t i).mark) 1 0) (ne_eqb (block_of (data_page_at i)) b (λ q. ne (is ∙ q)))
       ∙ add-zero (tally (λ e. test e.mark) (take i t) 0 b)
 
-  pub counted-more : Counted (set us at u) t (i + 1)
-  counted-more b lt =
+  pub counted_more : Counted (set us at u) t (i + 1)
+  counted_more b lt =
       ⊎_elim
       (λ same.
       ap (usage_at (set us at u)) (sym same)
@@ -134,8 +134,8 @@ abbrev pub Best : (ℕ → Bool) → (ℕ → ℕ) → ℕ → Option Candidate 
 Best fits cost end best = Chooses fits cost 8 end (candidate_number best) × Priced cost best
 
 module _ (fits : ℕ → Bool) (cost : ℕ → ℕ) (end : ℕ) (from : 8 ≤ end) where
-  at-end : (P : ℕ → Type 0) → ((c : ℕ) → 8 ≤ c → c < end → P c) → P end → (c : ℕ) → 8 ≤ c → c < end + 1 → P c
-  at-end P below last c ge lt = ⊎_elim (λ l. below c ge l) (λ l. subst P (omega arith) last) (cases_lt c end)
+  at_end : (P : ℕ → Type 0) → ((c : ℕ) → 8 ≤ c → c < end → P c) → P end → (c : ℕ) → 8 ≤ c → c < end + 1 → P c
+  at_end P below last c ge lt = ⊎_elim (λ l. below c ge l) (λ l. subst P (omega arith) last) (cases_lt c end)
 
   -- nothing was chosen, or what was chosen costs more
   takes : (best : Option Candidate) → Best fits cost end best → fits end ≡ true → cheaper (cost end) best ≡ true → Cheapest fits cost 8 (end + 1) end
@@ -143,7 +143,7 @@ module _ (fits : ℕ → Bool) (cost : ℕ → ℕ) (end : ℕ) (from : 8 ≤ en
     from = from;
     below = omega arith;
     fit = fit;
-    least = at-end (λ c. fits c ≡ true → cost end ≤ cost c) (λ c ge lt h. absurd (both_ways (fits c) (b.0 c ge lt) h)) (λ h. omega arith);
+    least = at_end (λ c. fits c ≡ true → cost end ≤ cost c) (λ c ge lt h. absurd (both_ways (fits c) (b.0 c ge lt) h)) (λ h. omega arith);
     lowest = λ c ge lt h. absurd (both_ways (fits c) (b.0 c ge lt) h);
   }
   takes (Some found) b fit less =
@@ -151,27 +151,27 @@ module _ (fits : ℕ → Bool) (cost : ℕ → ℕ) (end : ℕ) (from : 8 ≤ en
         from = from;
         below = omega arith;
         fit = fit;
-        least = at-end (λ c. fits c ≡ true → cost end ≤ cost c) (λ c ge lt h. omega (arith, under, b.1, b.0.least c ge lt h)) (λ h. omega arith);
+        least = at_end (λ c. fits c ≡ true → cost end ≤ cost c) (λ c ge lt h. omega (arith, under, b.1, b.0.least c ge lt h)) (λ h. omega arith);
         lowest = λ c ge lt h. omega (arith, under, b.1, b.0.least c ge lt h);
       }
 
   stays : (best : Option Candidate) → Best fits cost end best → (fits end && cheaper (cost end) best) ≡ false → Best fits cost (end + 1) best
   stays None b off =
-      (at-end (λ c. fits c ≡ false) b.0 (⊎_elim (λ n. n) (λ y. absurd (both_ways true y refl)) (and_cases (fits end) true off)), tt)
+      (at_end (λ c. fits c ≡ false) b.0 (⊎_elim (λ n. n) (λ y. absurd (both_ways true y refl)) (and_cases (fits end) true off)), tt)
   stays (Some found) b off = (
     record {
       from = b.0.from;
       below = omega (arith, b.0.below);
       fit = b.0.fit;
-      least = at-end (λ c. fits c ≡ true → cost found.block.0 ≤ cost c) b.0.least
+      least = at_end (λ c. fits c ≡ true → cost found.block.0 ≤ cost c) b.0.least
           (λ h. ⊎_elim (λ n. absurd (both_ways (fits end) n h)) (λ y. omega (arith, b.1, ltb-false (cost end) found.cost y)) (and_cases (fits end) (ltb (cost end) found.cost) off));
       lowest = b.0.lowest;
     },
     b.1,
   )
 
-  pub best-more : (best : Option Candidate) (block : EraseBlock) → block.0 ≡ end → Best fits cost end best → Best fits cost (end + 1) (weighed best block (fits end) (cost end))
-  best-more best block is b =
+  pub best_more : (best : Option Candidate) (block : EraseBlock) → block.0 ≡ end → Best fits cost end best → Best fits cost (end + 1) (weighed best block (fits end) (cost end))
+  best_more best block is b =
       ⊎_elim
       (λ y.
       let q = and_parts (fits end) (cheaper (cost end) best) y in
@@ -195,22 +195,22 @@ module _ (purpose : Purpose) (us : List Usage) where
   abbrev fit_at : ℕ → Bool
   fit_at b = fit_for purpose (usage_at us b)
 
-  abbrev cost-at : ℕ → ℕ
-  cost-at b = cost_for purpose (usage_at us b)
+  abbrev cost_at : ℕ → ℕ
+  cost_at b = cost_for purpose (usage_at us b)
 
-  pub best-next : (b : ℕ) (best next : Option Candidate) (f : Bool) (k : ℕ) → 8 ≤ b → f ≡ fit_at b → k ≡ cost-at b → next ≡ weighed best (record { 0 = b }) f k → Best fit_at cost-at b best → Best fit_at cost-at (b + 1) next
-  best-next b best next f k from is costs made so =
-      subst (Best fit_at cost-at (b + 1)) (sym (made ∙ ap₂ (weighed best (record { 0 = b })) is costs)) (best-more fit_at cost-at b from best (record { 0 = b }) refl so)
+  pub best_next : (b : ℕ) (best next : Option Candidate) (f : Bool) (k : ℕ) → 8 ≤ b → f ≡ fit_at b → k ≡ cost_at b → next ≡ weighed best (record { 0 = b }) f k → Best fit_at cost_at b best → Best fit_at cost_at (b + 1) next
+  best_next b best next f k from is costs made so =
+      subst (Best fit_at cost_at (b + 1)) (sym (made ∙ ap₂ (weighed best (record { 0 = b })) is costs)) (best_more fit_at cost_at b from best (record { 0 = b }) refl so)
 
-  pub best-chosen : (b blocks : ℕ) (best : Option Candidate) (found : Candidate) → b ≡ blocks → best ≡ Some found → Best fit_at cost-at b best → Cheapest fit_at cost-at 8 blocks found.block.0
-  best-chosen b blocks best found end is so = subst (λ n. Cheapest fit_at cost-at 8 n found.block.0) end (subst (Best fit_at cost-at b) is so).0
+  pub best_chosen : (b blocks : ℕ) (best : Option Candidate) (found : Candidate) → b ≡ blocks → best ≡ Some found → Best fit_at cost_at b best → Cheapest fit_at cost_at 8 blocks found.block.0
+  best_chosen b blocks best found end is so = subst (λ n. Cheapest fit_at cost_at 8 n found.block.0) end (subst (Best fit_at cost_at b) is so).0
 
-  pub none-chosen : (b blocks : ℕ) (best : Option Candidate) → b ≡ blocks → best ≡ None → Best fit_at cost-at b best → (c : ℕ) → 8 ≤ c → c < blocks → fit_at c ≡ false
-  none-chosen b blocks best end is so c ge lt = (subst (Best fit_at cost-at b) is so).0 c ge (omega arith)
+  pub none_chosen : (b blocks : ℕ) (best : Option Candidate) → b ≡ blocks → best ≡ None → Best fit_at cost_at b best → (c : ℕ) → 8 ≤ c → c < blocks → fit_at c ≡ false
+  none_chosen b blocks best end is so c ge lt = (subst (Best fit_at cost_at b) is so).0 c ge (omega arith)
 
   -- a choice by the counts is one by the table
-  pub chosen-by-table : (t u : Table) (b blocks : ℕ) (r : Option ℕ) → t ≡ u → b ≡ blocks → blocks ≤ 64 → ((c : ℕ) → c < 64 → usage_at us c ≡ usage_in t c) → Chooses fit_at cost-at 8 b r → Chooses (λ c. fit_for purpose (usage_in u c)) (λ c. cost_for purpose (usage_in u c)) 8 blocks r
-  chosen-by-table t u b blocks r same end few each so =
+  pub chosen_by_table : (t u : Table) (b blocks : ℕ) (r : Option ℕ) → t ≡ u → b ≡ blocks → blocks ≤ 64 → ((c : ℕ) → c < 64 → usage_at us c ≡ usage_in t c) → Chooses fit_at cost_at 8 b r → Chooses (λ c. fit_for purpose (usage_in u c)) (λ c. cost_for purpose (usage_in u c)) 8 blocks r
+  chosen_by_table t u b blocks r same end few each so =
       let at : (c : ℕ) → c < blocks → usage_at us c ≡ usage_in u c = λ c l. each c (omega arith) ∙ ap (λ v. usage_in v c) same in
-      chooses_same fit_at (λ c. fit_for purpose (usage_in u c)) cost-at (λ c. cost_for purpose (usage_in u c)) blocks (λ c l. ap (fit_for purpose) (at c l)) (λ c l. ap (cost_for purpose) (at c l)) r
-      (subst (λ n. Chooses fit_at cost-at 8 n r) end so)
+      chooses_same fit_at (λ c. fit_for purpose (usage_in u c)) cost_at (λ c. cost_for purpose (usage_in u c)) blocks (λ c l. ap (fit_for purpose) (at c l)) (λ c l. ap (cost_for purpose) (at c l)) r
+      (subst (λ n. Chooses fit_at cost_at 8 n r) end so)

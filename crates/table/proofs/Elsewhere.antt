@@ -16,8 +16,8 @@ refuted b not_so = ⊎_elim (λ y. absurd (not_so y)) (λ n. n) (cases_Bool b)
 -- Another mark for the address a, and another address b
 
 module _ (m : Mark) (a b : ℕ) (other : a ≡ b → ⊥) where
-  remarked-elsewhere : (e : Entry) → (remarked_entry m a e ≡ e) ⊎ ((holds b (remarked_entry m a e) ≡ false) × (holds b e ≡ false))
-  remarked-elsewhere e =
+  remarked_elsewhere : (e : Entry) → (remarked_entry m a e ≡ e) ⊎ ((holds b (remarked_entry m a e) ≡ false) × (holds b e ≡ false))
+  remarked_elsewhere e =
       ⊎_elim
       (λ y.
       inr (
@@ -27,33 +27,33 @@ module _ (m : Mark) (a b : ℕ) (other : a ≡ b → ⊥) where
       (λ n. inl (cond-false (holds a e) (entry_with m a) e n))
       (cases_Bool (holds a e))
 
-  pub mark-remarked-other : (t : Table) → mark_of (remarked t m a) b ≡ mark_of t b
-  mark-remarked-other [] = refl
-  mark-remarked-other (e ∷ es) =
-      let rest = mark-remarked-other es in
+  pub mark_remarked_other : (t : Table) → mark_of (remarked t m a) b ≡ mark_of t b
+  mark_remarked_other [] = refl
+  mark_remarked_other (e ∷ es) =
+      let rest = mark_remarked_other es in
       ⊎_elim
       (λ same. ap₂ (λ x r. cond (holds b x) x.mark r) same rest)
       (λ none.
       cond-false (holds b (remarked_entry m a e)) (remarked_entry m a e).mark (mark_of (remarked es m a) b) none.0
       ∙ rest
       ∙ sym (cond-false (holds b e) e.mark (mark_of es b) none.1))
-      (remarked-elsewhere e)
+      (remarked_elsewhere e)
 
-  pub held-remarked-other : (t : Table) → held (remarked t m a) b ≡ held t b
-  held-remarked-other [] = refl
-  held-remarked-other (e ∷ es) =
-      let rest = held-remarked-other es in
-      ⊎_elim (λ same. ap₂ (λ x r. holds b x || r) same rest) (λ none. ap₂ ◌||◌ (none.0 ∙ sym none.1) rest) (remarked-elsewhere e)
+  pub held_remarked_other : (t : Table) → held (remarked t m a) b ≡ held t b
+  held_remarked_other [] = refl
+  held_remarked_other (e ∷ es) =
+      let rest = held_remarked_other es in
+      ⊎_elim (λ same. ap₂ (λ x r. holds b x || r) same rest) (λ none. ap₂ ◌||◌ (none.0 ∙ sym none.1) rest) (remarked_elsewhere e)
 
 module _ (t : Table) (a b : ℕ) (other : a ≡ b → ⊥) where
-  pub mark-without-other : mark_of (without t a) b ≡ mark_of t b
-  mark-without-other = mark-remarked-other Empty a b other t
+  pub mark_without_other : mark_of (without t a) b ≡ mark_of t b
+  mark_without_other = mark_remarked_other Empty a b other t
 
-  pub held-without-other : held (without t a) b ≡ held t b
-  held-without-other = held-remarked-other Empty a b other t
+  pub held_without_other : held (without t a) b ≡ held t b
+  held_without_other = held_remarked_other Empty a b other t
 
-  pub mark-cleaned-other : mark_of (cleaned t a) b ≡ mark_of t b
-  mark-cleaned-other = mark-remarked-other Clean a b other t
+  pub mark_cleaned_other : mark_of (cleaned t a) b ≡ mark_of t b
+  mark_cleaned_other = mark_remarked_other Clean a b other t
 
 -- Marked clean, an address is held as before
 
@@ -86,28 +86,28 @@ held_cleaned (e ∷ es) a b = ap₂ ◌||◌ (cleaned_same a b e) (held_cleaned 
 -- A page written anew, and an address that it neither held nor holds
 
 module _ (b : ℕ) (e : Entry) (not_new : holds b e ≡ false) where
-  mark-set-other : (t : Table) (p : ℕ) → holds b (entry_at t p) ≡ false → mark_of (set t p e) b ≡ mark_of t b
-  mark-set-other [] p not-old = refl
-  mark-set-other (x ∷ xs) zero not-old =
-      cond-false (holds b e) e.mark (mark_of xs b) not_new ∙ sym (cond-false (holds b x) x.mark (mark_of xs b) not-old)
-  mark-set-other (x ∷ xs) (suc p) not-old = ap (λ r. cond (holds b x) x.mark r) (mark-set-other xs p not-old)
+  mark_set_other : (t : Table) (p : ℕ) → holds b (entry_at t p) ≡ false → mark_of (set t p e) b ≡ mark_of t b
+  mark_set_other [] p not_old = refl
+  mark_set_other (x ∷ xs) zero not_old =
+      cond-false (holds b e) e.mark (mark_of xs b) not_new ∙ sym (cond-false (holds b x) x.mark (mark_of xs b) not_old)
+  mark_set_other (x ∷ xs) (suc p) not_old = ap (λ r. cond (holds b x) x.mark r) (mark_set_other xs p not_old)
 
-  held-set-other : (t : Table) (p : ℕ) → holds b (entry_at t p) ≡ false → held (set t p e) b ≡ held t b
-  held-set-other [] p not-old = refl
-  held-set-other (x ∷ xs) zero not-old = ap (λ y. y || held xs b) (not_new ∙ sym not-old)
-  held-set-other (x ∷ xs) (suc p) not-old = ap (λ r. holds b x || r) (held-set-other xs p not-old)
+  held_set_other : (t : Table) (p : ℕ) → holds b (entry_at t p) ≡ false → held (set t p e) b ≡ held t b
+  held_set_other [] p not_old = refl
+  held_set_other (x ∷ xs) zero not_old = ap (λ y. y || held xs b) (not_new ∙ sym not_old)
+  held_set_other (x ∷ xs) (suc p) not_old = ap (λ r. holds b x || r) (held_set_other xs p not_old)
 
 module _ (t : Table) (p : ℕ) (m : Mark) (a b : ℕ) (other : a ≡ b → ⊥) (unmarked : marked_at t p ≡ false) where
   not_new : holds b (entry m a) ≡ false
   not_new = refuted (holds b (entry m a)) (λ h. other (holds_parts b (entry m a) h).1)
 
-  not-old : holds b (entry_at (without t a) p) ≡ false
-  not-old =
+  not_old : holds b (entry_at (without t a) p) ≡ false
+  not_old =
       refuted (holds b (entry_at (without t a) p))
       (λ h. both_ways (marked_at t p) unmarked (holds_parts b (entry_at t p) (remarked_holds Empty a b (entry_at t p) (ap (holds b) (sym (without_at t a p)) ∙ h))).0)
 
-  pub mark-entered-other : mark_of (entered t p m a) b ≡ mark_of t b
-  mark-entered-other = mark-set-other b (entry m a) not_new (without t a) p not-old ∙ mark-without-other t a b other
+  pub mark_entered_other : mark_of (entered t p m a) b ≡ mark_of t b
+  mark_entered_other = mark_set_other b (entry m a) not_new (without t a) p not_old ∙ mark_without_other t a b other
 
-  pub held-entered-other : held (entered t p m a) b ≡ held t b
-  held-entered-other = held-set-other b (entry m a) not_new (without t a) p not-old ∙ held-without-other t a b other
+  pub held_entered_other : held (entered t p m a) b ≡ held t b
+  held_entered_other = held_set_other b (entry m a) not_new (without t a) p not_old ∙ held_without_other t a b other

@@ -8,7 +8,7 @@ use Rattle.table.specs.declared.mapping.MappingTable.{MappingTable}
 use Rattle.table.specs.Tables.{entry, without, entered, ProperTable}
 use Rattle.table.specs.Views.{table_of, AloneAt, entry_with, remarked}
 use Rattle.table.proofs.Tablewise.{proper_from}
-use Rattle.table.proofs.Changing.{remarked-one, length_without}
+use Rattle.table.proofs.Changing.{remarked_one, length_without}
 
 pub table_proper : (m : MappingTable) → ProperTable (table_of m)
 table_proper m = proper_from (table_of m) m.fit m.distinct
@@ -17,11 +17,11 @@ pub table_length : (m : MappingTable) → length (table_of m) ≡ m.pages
 table_length m = length-take-le m.pages m.entries (omega (arith, m.whole, m.within))
 
 module _ (m : MappingTable) (a p : ℕ) (only : AloneAt (table_of m) a p) where
-  pub remarked-there : (mark : Mark) (e : Entry) → e ≡ entry_with mark a → take m.pages (set m.entries p e) ≡ remarked (table_of m) mark a
-  remarked-there mark e is =
+  pub remarked_there : (mark : Mark) (e : Entry) → e ≡ entry_with mark a → take m.pages (set m.entries p e) ≡ remarked (table_of m) mark a
+  remarked_there mark e is =
       take-set-lt m.pages m.entries p e (omega (arith, only.inside, table_length m))
       ∙ ap (set (table_of m) p) is
-      ∙ sym (remarked-one (table_of m) a p only mark)
+      ∙ sym (remarked_one (table_of m) a p only mark)
 
 -- a page entered once the address is emptied
 pub entered_there : (m n : MappingTable) (p : ℕ) (mark : Mark) (a : ℕ) → table_of n ≡ without (table_of m) a → p < length (table_of m) → take n.pages (set n.entries p (entry mark a)) ≡ entered (table_of m) p mark a

@@ -41,8 +41,8 @@ mark_push (x ∷ xs) e a new =
     (cases_Bool (holds a x))
 
 module _ (t : Table) (proper : ProperTable t) (i : ℕ) (l : i < length t) where
-  new-there : (a : ℕ) → holds a (entry_at t i) ≡ true → held (take i t) a ≡ false
-  new-there a h =
+  new_there : (a : ℕ) → holds a (entry_at t i) ≡ true → held (take i t) a ≡ false
+  new_there a h =
       unheld_from (take i t) a
       (λ k lt.
       let below : k < i = omega (arith, length-take-le i t (omega arith)) in
@@ -51,16 +51,16 @@ module _ (t : Table) (proper : ProperTable t) (i : ℕ) (l : i < length t) where
       (λ n. n)
       (cases_Bool (holds a (entry_at (take i t) k))))
 
-  mark-more : (a : ℕ) → mark_of (take (i + 1) t) a ≡ cond (holds a (entry_at t i)) (entry_at t i).mark (mark_of (take i t) a)
-  mark-more a = ap (λ u. mark_of u a) (take_more t i empty l) ∙ mark_push (take i t) (entry_at t i) a (new-there a)
+  mark_more : (a : ℕ) → mark_of (take (i + 1) t) a ≡ cond (holds a (entry_at t i)) (entry_at t i).mark (mark_of (take i t) a)
+  mark_more a = ap (λ u. mark_of u a) (take_more t i empty l) ∙ mark_push (take i t) (entry_at t i) a (new_there a)
 
   -- the marks of the first entries, and then those of one more
-  pub marks-more : (out after : List ℕ) (first : ℕ) → ((k : ℕ) → k < length out → get_or out k 0 ≡ mark_number (mark_of (take i t) (first + k))) → ((k : ℕ) → k < length out → get_or after k 0 ≡ cond (holds (first + k) (entry_at t i)) (mark_number (entry_at t i).mark) (get_or out k 0)) → (k : ℕ) → k < length out → get_or after k 0 ≡ mark_number (mark_of (take (i + 1) t) (first + k))
-  marks-more out after first before write k lt =
+  pub marks_more : (out after : List ℕ) (first : ℕ) → ((k : ℕ) → k < length out → get_or out k 0 ≡ mark_number (mark_of (take i t) (first + k))) → ((k : ℕ) → k < length out → get_or after k 0 ≡ cond (holds (first + k) (entry_at t i)) (mark_number (entry_at t i).mark) (get_or out k 0)) → (k : ℕ) → k < length out → get_or after k 0 ≡ mark_number (mark_of (take (i + 1) t) (first + k))
+  marks_more out after first before write k lt =
       write k lt
       ∙ ⊎_elim
-      (λ y. cond-true (holds (first + k) (entry_at t i)) (mark_number (entry_at t i).mark) (get_or out k 0) y ∙ ap mark_number (sym (mark-more (first + k) ∙ cond-true (holds (first + k) (entry_at t i)) (entry_at t i).mark (mark_of (take i t) (first + k)) y)))
-      (λ n. cond-false (holds (first + k) (entry_at t i)) (mark_number (entry_at t i).mark) (get_or out k 0) n ∙ before k lt ∙ ap mark_number (sym (mark-more (first + k) ∙ cond-false (holds (first + k) (entry_at t i)) (entry_at t i).mark (mark_of (take i t) (first + k)) n)))
+      (λ y. cond-true (holds (first + k) (entry_at t i)) (mark_number (entry_at t i).mark) (get_or out k 0) y ∙ ap mark_number (sym (mark_more (first + k) ∙ cond-true (holds (first + k) (entry_at t i)) (entry_at t i).mark (mark_of (take i t) (first + k)) y)))
+      (λ n. cond-false (holds (first + k) (entry_at t i)) (mark_number (entry_at t i).mark) (get_or out k 0) n ∙ before k lt ∙ ap mark_number (sym (mark_more (first + k) ∙ cond-false (holds (first + k) (entry_at t i)) (entry_at t i).mark (mark_of (take i t) (first + k)) n)))
       (cases_Bool (holds (first + k) (entry_at t i)))
 
 pub marks_all : (t : Table) (i : ℕ) (out : List ℕ) (first n : ℕ) → length t ≤ i → length out ≡ n → ((k : ℕ) → k < length out → get_or out k 0 ≡ mark_number (mark_of (take i t) (first + k))) → out ≡ marks_from t first n

@@ -11,6 +11,6 @@ loop-p-init c = refl
 
 pub loop-p-preserved : goal.loop-p-preserved
 loop-p-preserved c = unsettled_more (page_of c.args.image.now) c.args.block.0 c.loop-p.p _ _
-    (ap₂ ◌&&◌ (ap (λ n. eqb n c.args.block.0) c.erase-block.ensures)
-    (c.unsettled-byte.ensures ∙ decode_unsettled (state_at c.args.image.now c.loop-p.p) (held (note_at c.args.image.now (520 * c.loop-p.p)) (data_at c.args.image.now (520 * c.loop-p.p)))))
+    (ap₂ ◌&&◌ (ap (λ n. eqb n c.args.block.0) c.erase_block.ensures)
+    (c.unsettled_byte.ensures ∙ decode_unsettled (state_at c.args.image.now c.loop-p.p) (held (note_at c.args.image.now (520 * c.loop-p.p)) (data_at c.args.image.now (520 * c.loop-p.p)))))
     c.loop-p.invariant

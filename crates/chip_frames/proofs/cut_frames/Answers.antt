@@ -7,8 +7,8 @@ pub loop-p-init : goal.loop-p-init
 loop-p-init c = restated_none _ _
 
 pub loop-p-preserved : goal.loop-p-preserved
-loop-p-preserved c = restated_more _ _ _ c.loop-p.p c.cut-byte.result (omega arith)
-    (c.cut-byte.ensures ∙ ap₂ cut_state (c.loop-p.invariant.rest c.loop-p.p (omega arith)) (c.loop-p.invariant.others (520 * c.loop-p.p + 1) (λ h. omega arith)))
+loop-p-preserved c = restated_more _ _ _ c.loop-p.p c.cut_byte.result (omega arith)
+    (c.cut_byte.ensures ∙ ap₂ cut_state (c.loop-p.invariant.rest c.loop-p.p (omega arith)) (c.loop-p.invariant.others (520 * c.loop-p.p + 1) (λ h. omega arith)))
     c.loop-p.invariant
 
 pub returns : goal.returns

@@ -8,8 +8,8 @@ pub loop-p-init : goal.loop-p-init
 loop-p-init c = restated_none _ _
 
 pub loop-p-preserved : goal.loop-p-preserved
-loop-p-preserved c = restated_more _ _ _ c.loop-p.p c.erased-in.result (omega arith)
-    (c.erased-in.ensures ∙ ap (λ s. cond (eqb (block_of c.loop-p.p) c.args.block.0) (erased_state s) s) (c.loop-p.invariant.rest c.loop-p.p (omega arith)))
+loop-p-preserved c = restated_more _ _ _ c.loop-p.p c.erased_in.result (omega arith)
+    (c.erased_in.ensures ∙ ap (λ s. cond (eqb (block_of c.loop-p.p) c.args.block.0) (erased_state s) s) (c.loop-p.invariant.rest c.loop-p.p (omega arith)))
     c.loop-p.invariant
 
 pub returns : goal.returns

@@ -1,46 +1,46 @@
 use Rattle.std.proofs.lemmas.Result.{err_from_is_err_and}
 use Rattle.layout.specs.Geometry.{data_pages}
 use Rattle.recovery.proofs.Lookwise.{quiet_then}
-use Rattle.engine.proofs.Waking.{recovery-dark, looked-lost, awake}
+use Rattle.engine.proofs.Waking.{recovery_dark, looked_lost, awake}
 use Rattle.engine.proofs.powering.wake.Goals as goal
 
 pub returns-in-err-found : goal.returns-in-err-found
 returns-in-err-found g c =
     let m = g.C.Chip.meaning c.args.chip.now in
-    let m₁ = g.C.Chip.meaning c.power-on.new.self in
+    let m₁ = g.C.Chip.meaning c.power_on.new.self in
     let m₂ = g.C.Chip.meaning c.recover.new.chip in
     let geometry = c.args.geometry in
-    let on = c.in-ok-power-on.ensures in
+    let on = c.in-ok-power_on.ensures in
     let found = c.in-err-found.ensures in
     let p = err_from_is_err_and c.from-residual-in-err-found.result c.from-residual-in-err-found.ensures.1 in
     record {
       sound = found.sound;
-      wakes = rw (p.1, p.2) (recovery-dark m m₁ m₂ on.rules found.quiet geometry.blocks _ c.requires.fits geometry.enough geometry.few found.found);
+      wakes = rw (p.1, p.2) (recovery_dark m m₁ m₂ on.rules found.quiet geometry.blocks _ c.requires.fits geometry.enough geometry.few found.found);
     }
 
 pub returns-in-err-space : goal.returns-in-err-space
 returns-in-err-space g c =
     let m = g.C.Chip.meaning c.args.chip.now in
-    let m₁ = g.C.Chip.meaning c.power-on.new.self in
+    let m₁ = g.C.Chip.meaning c.power_on.new.self in
     let m₂ = g.C.Chip.meaning c.recover.new.chip in
     let m₃ = g.C.Chip.meaning c.scan.new.chip in
-    let on = c.in-ok-power-on.ensures in
+    let on = c.in-ok-power_on.ensures in
     let found = c.in-ok-found.ensures in
     let seen = c.in-err-space.ensures in
     let p = err_from_is_err_and c.from-residual-in-err-space.result c.from-residual-in-err-space.ensures.1 in
     record {
       sound = seen.sound;
-      wakes = rw (p.1, p.2) (looked-lost m m₁ m₃ on.rules (quiet_then m₁ m₂ m₃ found.quiet seen.quiet) (data_pages c.args.geometry.blocks) _ seen.found);
+      wakes = rw (p.1, p.2) (looked_lost m m₁ m₃ on.rules (quiet_then m₁ m₂ m₃ found.quiet seen.quiet) (data_pages c.args.geometry.blocks) _ seen.found);
     }
 
 pub returns : goal.returns
 returns g c =
     let m = g.C.Chip.meaning c.args.chip.now in
-    let m₁ = g.C.Chip.meaning c.power-on.new.self in
+    let m₁ = g.C.Chip.meaning c.power_on.new.self in
     let m₂ = g.C.Chip.meaning c.recover.new.chip in
     let m₃ = g.C.Chip.meaning c.scan.new.chip in
     let geometry = c.args.geometry in
-    let on = c.in-ok-power-on.ensures in
+    let on = c.in-ok-power_on.ensures in
     let found = c.in-ok-found.ensures in
     let seen = c.in-ok-space.ensures in
     record {

@@ -1,6 +1,6 @@
 use Rattle.std.proofs.lemmas.Result.{err_from_is_err_and}
 use Rattle.journal.specs.Notes.{noted, pages_of}
-use Rattle.engine.proofs.Fetching.{not-fetched}
+use Rattle.engine.proofs.Fetching.{not_fetched}
 use Rattle.engine.proofs.reading.fetch.Goals as goal
 
 pub returns-in-err-read : goal.returns-in-err-read
@@ -13,6 +13,6 @@ returns-in-err-read g c =
     let p = err_from_is_err_and c.from-residual.result c.from-residual.ensures.1 in
     record {
       sound = read.sound;
-      fetches = rw (p.1, p.2) (not-fetched (pages_of journal) c.args.address.0 c.args.page.0 m (noted journal) c.requires.held m₁ c.args.space.now c.args.buf.now c.read.new.buf c.chip-page.result.0
-          c.chip-page.ensures holding.0 holding.1 _ c.requires.whole read.rules);
+      fetches = rw (p.1, p.2) (not_fetched (pages_of journal) c.args.address.0 c.args.page.0 m (noted journal) c.requires.held m₁ c.args.space.now c.args.buf.now c.read.new.buf c.chip_page.result.0
+          c.chip_page.ensures holding.0 holding.1 _ c.requires.whole read.rules);
     }

@@ -4,18 +4,18 @@ use Rattle.journal.specs.Notes.{noted, pages_of}
 use Rattle.engine.proofs.Roomily.{roomy_commits, roomy_stays}
 use Rattle.engine.proofs.writing.make_roomy.Goals as goal
 
-pub returns-then-is-full : goal.returns-then-is-full
-returns-then-is-full g c = record {
+pub returns-then-is_full : goal.returns-then-is_full
+returns-then-is_full g c = record {
   sound = c.commit.ensures.sound;
   size = c.commit.ensures.size;
   roomy = roomy_commits (pages_of c.args.journal.now) (g.C.Chip.meaning c.args.chip.now) (noted c.args.journal.now) c.args.space.now c.commit.result
-      (g.C.Chip.meaning c.commit.new.chip) (noted c.commit.new.self) (sym c.if-is-full.ensures) c.commit.ensures.commits;
+      (g.C.Chip.meaning c.commit.new.chip) (noted c.commit.new.self) (sym c.if-is_full.ensures) c.commit.ensures.commits;
 }
 
-pub returns-else-is-full : goal.returns-else-is-full
-returns-else-is-full g c = record {
+pub returns-else-is_full : goal.returns-else-is_full
+returns-else-is_full g c = record {
   sound = c.requires.sound;
   size = refl;
   roomy = roomy_stays (pages_of c.args.journal.now) (g.C.Chip.meaning c.args.chip.now) (noted c.args.journal.now) c.args.space.now
-      (sym c.if-is-full.ensures);
+      (sym c.if-is_full.ensures);
 }

@@ -5,7 +5,7 @@ use Rattle.layout.specs.Geometry.{data_pages}
 use Rattle.journal.specs.Notes.{noted, pages_of}
 use Rattle.space.specs.Rooms.{FindsRoom, Placed, Places}
 use Rattle.engine.specs.Works.{Holding, MakesRoomy, Enters}
-use Rattle.engine.proofs.Written.{room-holding, placed-holding, write-room, write-unmarked, write-data, write_unfound, write-unplaced, write-crowded, write-ends}
+use Rattle.engine.proofs.Written.{room_holding, placed_holding, write_room, write_unmarked, write_data, write_unfound, write_unplaced, write_crowded, write_ends}
 use Rattle.engine.proofs.writing.write.Goals as goal
 
 pub returns-in-err-page : goal.returns-in-err-page
@@ -13,12 +13,12 @@ returns-in-err-page g c =
     let p = err_from_is_err_and c.from-residual.result c.from-residual.ensures.1 in
     let j = c.args.journal.now in
     let m = g.C.Chip.meaning c.args.chip.now in
-    let m₁ = g.C.Chip.meaning c.find-room.new.chip in
-    let v₁ = noted c.find-room.new.journal in
-    let sp₁ = c.find-room.new.self in
+    let m₁ = g.C.Chip.meaning c.find_room.new.chip in
+    let v₁ = noted c.find_room.new.journal in
+    let sp₁ = c.find_room.new.self in
     record {
-      sound = c.find-room.ensures.sound;
-      size = c.find-room.ensures.size;
+      sound = c.find_room.ensures.sound;
+      size = c.find_room.ensures.size;
       writes = rw (p.1, p.2) (write_unfound (pages_of j) j.geometry.blocks c.args.dirty c.args.address.0 c.args.bytes.now m (noted j) c.args.space.now
           c.in-err-page.field-0.0 m₁ v₁ sp₁ c.in-err-page.ensures.finds);
     }
@@ -29,77 +29,77 @@ returns-in-err-place g c =
     let j = c.args.journal.now in
     let D = pages_of j in
     let m = g.C.Chip.meaning c.args.chip.now in
-    let m₁ = g.C.Chip.meaning c.find-room.new.chip in
-    let v₁ = noted c.find-room.new.journal in
-    let sp₁ = c.find-room.new.self in
+    let m₁ = g.C.Chip.meaning c.find_room.new.chip in
+    let v₁ = noted c.find_room.new.journal in
+    let sp₁ = c.find_room.new.self in
     let i = c.in-Some.page in
     let a = c.args.address.0 in
     let bytes = c.args.bytes.now in
     let f = c.in-err-place.field-0.0 in
     let m₂ = g.C.Chip.meaning c.place.new.chip in
     let sp₂ = c.place.new.self in
-    let size : pages_of c.find-room.new.journal ≡ D = ap (λ z. data_pages z.blocks) c.find-room.ensures.size in
+    let size : pages_of c.find_room.new.journal ≡ D = ap (λ z. data_pages z.blocks) c.find_room.ensures.size in
     let found = subst (λ o. FindsRoom D j.geometry.blocks m (noted j) c.args.space.now (Ok o) m₁ v₁ sp₁) c.in-Some.is c.in-ok-page.ensures.finds in
     record {
       sound = c.place.ensures.sound;
-      size = c.find-room.ensures.size;
-      writes = rw (p.1, p.2) (write-unplaced D j.geometry.blocks m (noted j) c.args.space.now i m₁ v₁ sp₁ found c.args.dirty a bytes f m₂ sp₂
+      size = c.find_room.ensures.size;
+      writes = rw (p.1, p.2) (write_unplaced D j.geometry.blocks m (noted j) c.args.space.now i m₁ v₁ sp₁ found c.args.dirty a bytes f m₂ sp₂
           (subst (λ d. Places d i.0 a bytes m₁ v₁ sp₁ (Err f) m₂ sp₂) size c.in-err-place.ensures.places));
     }
 
-pub make-roomy-requires : goal.make-roomy-requires
-make-roomy-requires g c =
+pub make_roomy-requires : goal.make_roomy-requires
+make_roomy-requires g c =
     let j = c.args.journal.now in
     let D = pages_of j in
     let blocks = j.geometry.blocks in
     let m = g.C.Chip.meaning c.args.chip.now in
     let v = noted j in
     let sp = c.args.space.now in
-    let m₁ = g.C.Chip.meaning c.find-room.new.chip in
-    let v₁ = noted c.find-room.new.journal in
-    let sp₁ = c.find-room.new.self in
+    let m₁ = g.C.Chip.meaning c.find_room.new.chip in
+    let v₁ = noted c.find_room.new.journal in
+    let sp₁ = c.find_room.new.self in
     let i = c.in-Some.page in
     let a = c.args.address.0 in
     let bytes = c.args.bytes.now in
     let m₂ = g.C.Chip.meaning c.place.new.chip in
     let sp₂ = c.place.new.self in
-    let size : pages_of c.find-room.new.journal ≡ D = ap (λ z. data_pages z.blocks) c.find-room.ensures.size in
+    let size : pages_of c.find_room.new.journal ≡ D = ap (λ z. data_pages z.blocks) c.find_room.ensures.size in
     let found = subst (λ o. FindsRoom D blocks m v sp (Ok o) m₁ v₁ sp₁) c.in-Some.is c.in-ok-page.ensures.finds in
     let laid = subst (λ d. Placed d i.0 a bytes m₁ v₁ sp₁ m₂ sp₂) size c.in-ok-place.ensures.places in
-    let (u, k, _) = room-holding D blocks m v sp i m₁ v₁ sp₁ found c.requires.holding.0 c.requires.holding.1 in
+    let (u, k, _) = room_holding D blocks m v sp i m₁ v₁ sp₁ found c.requires.holding.0 c.requires.holding.1 in
     record {
       sound = c.place.ensures.sound;
-      holding = (u, subst (λ d. Holding d m₂ v₁ sp₂ u) (sym size) (placed-holding D blocks m v sp i m₁ v₁ sp₁ found c.args.dirty a bytes m₂ sp₂ laid u k));
+      holding = (u, subst (λ d. Holding d m₂ v₁ sp₂ u) (sym size) (placed_holding D blocks m v sp i m₁ v₁ sp₁ found c.args.dirty a bytes m₂ sp₂ laid u k));
     }
 
-pub returns-in-err-make-roomy : goal.returns-in-err-make-roomy
-returns-in-err-make-roomy g c =
-    let p = err_from_is_err_and c.from-residual-in-err-make-roomy.result c.from-residual-in-err-make-roomy.ensures.1 in
+pub returns-in-err-make_roomy : goal.returns-in-err-make_roomy
+returns-in-err-make_roomy g c =
+    let p = err_from_is_err_and c.from-residual-in-err-make_roomy.result c.from-residual-in-err-make_roomy.ensures.1 in
     let j = c.args.journal.now in
     let D = pages_of j in
     let blocks = j.geometry.blocks in
     let m = g.C.Chip.meaning c.args.chip.now in
     let v = noted j in
     let sp = c.args.space.now in
-    let m₁ = g.C.Chip.meaning c.find-room.new.chip in
-    let v₁ = noted c.find-room.new.journal in
-    let sp₁ = c.find-room.new.self in
+    let m₁ = g.C.Chip.meaning c.find_room.new.chip in
+    let v₁ = noted c.find_room.new.journal in
+    let sp₁ = c.find_room.new.self in
     let i = c.in-Some.page in
     let a = c.args.address.0 in
     let bytes = c.args.bytes.now in
     let m₂ = g.C.Chip.meaning c.place.new.chip in
     let sp₂ = c.place.new.self in
-    let size : pages_of c.find-room.new.journal ≡ D = ap (λ z. data_pages z.blocks) c.find-room.ensures.size in
+    let size : pages_of c.find_room.new.journal ≡ D = ap (λ z. data_pages z.blocks) c.find_room.ensures.size in
     let found = subst (λ o. FindsRoom D blocks m v sp (Ok o) m₁ v₁ sp₁) c.in-Some.is c.in-ok-page.ensures.finds in
     let laid = subst (λ d. Placed d i.0 a bytes m₁ v₁ sp₁ m₂ sp₂) size c.in-ok-place.ensures.places in
-    let f = c.in-err-make-roomy.field-0.0 in
-    let m₃ = g.C.Chip.meaning c.make-roomy.new.chip in
-    let v₃ = noted c.make-roomy.new.journal in
+    let f = c.in-err-make_roomy.field-0.0 in
+    let m₃ = g.C.Chip.meaning c.make_roomy.new.chip in
+    let v₃ = noted c.make_roomy.new.journal in
     record {
-      sound = c.make-roomy.ensures.sound;
-      size = c.make-roomy.ensures.size ∙ c.find-room.ensures.size;
-      writes = rw (p.1, p.2) (write-crowded D blocks m v sp i m₁ v₁ sp₁ found c.args.dirty a bytes m₂ sp₂ laid f m₃ v₃
-          (subst (λ d. MakesRoomy d m₂ v₁ sp₂ (Err f) m₃ v₃) size c.in-err-make-roomy.ensures.roomy));
+      sound = c.make_roomy.ensures.sound;
+      size = c.make_roomy.ensures.size ∙ c.find_room.ensures.size;
+      writes = rw (p.1, p.2) (write_crowded D blocks m v sp i m₁ v₁ sp₁ found c.args.dirty a bytes m₂ sp₂ laid f m₃ v₃
+          (subst (λ d. MakesRoomy d m₂ v₁ sp₂ (Err f) m₃ v₃) size c.in-err-make_roomy.ensures.roomy));
     }
 
 pub enter-requires : goal.enter-requires
@@ -110,60 +110,60 @@ enter-requires g c =
     let m = g.C.Chip.meaning c.args.chip.now in
     let v = noted j in
     let sp = c.args.space.now in
-    let m₁ = g.C.Chip.meaning c.find-room.new.chip in
-    let v₁ = noted c.find-room.new.journal in
-    let sp₁ = c.find-room.new.self in
+    let m₁ = g.C.Chip.meaning c.find_room.new.chip in
+    let v₁ = noted c.find_room.new.journal in
+    let sp₁ = c.find_room.new.self in
     let i = c.in-Some.page in
     let a = c.args.address.0 in
     let bytes = c.args.bytes.now in
     let m₂ = g.C.Chip.meaning c.place.new.chip in
     let sp₂ = c.place.new.self in
-    let size : pages_of c.find-room.new.journal ≡ D = ap (λ z. data_pages z.blocks) c.find-room.ensures.size in
+    let size : pages_of c.find_room.new.journal ≡ D = ap (λ z. data_pages z.blocks) c.find_room.ensures.size in
     let found = subst (λ o. FindsRoom D blocks m v sp (Ok o) m₁ v₁ sp₁) c.in-Some.is c.in-ok-page.ensures.finds in
     let laid = subst (λ d. Placed d i.0 a bytes m₁ v₁ sp₁ m₂ sp₂) size c.in-ok-place.ensures.places in
-    let m₃ = g.C.Chip.meaning c.make-roomy.new.chip in
-    let v₃ = noted c.make-roomy.new.journal in
-    let size₃ : pages_of c.make-roomy.new.journal ≡ D = ap (λ z. data_pages z.blocks) c.make-roomy.ensures.size ∙ size in
-    let roomier = subst (λ d. MakesRoomy d m₂ v₁ sp₂ (Ok tt) m₃ v₃) size c.in-ok-make-roomy.ensures.roomy in
-    let (u, k, _) = room-holding D blocks m v sp i m₁ v₁ sp₁ found c.requires.holding.0 c.requires.holding.1 in
-    let (u₂, k₂, _) = roomier.2 u (placed-holding D blocks m v sp i m₁ v₁ sp₁ found c.args.dirty a bytes m₂ sp₂ laid u k) in
+    let m₃ = g.C.Chip.meaning c.make_roomy.new.chip in
+    let v₃ = noted c.make_roomy.new.journal in
+    let size₃ : pages_of c.make_roomy.new.journal ≡ D = ap (λ z. data_pages z.blocks) c.make_roomy.ensures.size ∙ size in
+    let roomier = subst (λ d. MakesRoomy d m₂ v₁ sp₂ (Ok tt) m₃ v₃) size c.in-ok-make_roomy.ensures.roomy in
+    let (u, k, _) = room_holding D blocks m v sp i m₁ v₁ sp₁ found c.requires.holding.0 c.requires.holding.1 in
+    let (u₂, k₂, _) = roomier.2 u (placed_holding D blocks m v sp i m₁ v₁ sp₁ found c.args.dirty a bytes m₂ sp₂ laid u k) in
     record {
-      sound = c.make-roomy.ensures.sound;
+      sound = c.make_roomy.ensures.sound;
       holding = (u₂, subst (λ d. Holding d m₃ v₃ sp₂ u₂) (sym size₃) k₂);
-      room = write-room D blocks m v sp i m₁ v₁ sp₁ found c.args.dirty a bytes m₂ sp₂ laid m₃ v₃ roomier u k.keeps.ready;
+      room = write_room D blocks m v sp i m₁ v₁ sp₁ found c.args.dirty a bytes m₂ sp₂ laid m₃ v₃ roomier u k.keeps.ready;
       inside = subst (λ d. i.0 < d) (sym size₃) found.2.inside;
-      unmarked = write-unmarked D blocks m v sp i m₁ v₁ sp₁ found c.args.dirty a bytes m₂ sp₂ laid m₃ v₃ roomier u k.keeps.ready;
-      «data» = write-data D blocks m v sp i m₁ v₁ sp₁ found c.args.dirty a bytes m₂ sp₂ laid m₃ v₃ roomier;
+      unmarked = write_unmarked D blocks m v sp i m₁ v₁ sp₁ found c.args.dirty a bytes m₂ sp₂ laid m₃ v₃ roomier u k.keeps.ready;
+      «data» = write_data D blocks m v sp i m₁ v₁ sp₁ found c.args.dirty a bytes m₂ sp₂ laid m₃ v₃ roomier;
     }
 
-pub returns-in-ok-make-roomy : goal.returns-in-ok-make-roomy
-returns-in-ok-make-roomy g c =
+pub returns-in-ok-make_roomy : goal.returns-in-ok-make_roomy
+returns-in-ok-make_roomy g c =
     let j = c.args.journal.now in
     let D = pages_of j in
     let blocks = j.geometry.blocks in
     let m = g.C.Chip.meaning c.args.chip.now in
     let v = noted j in
     let sp = c.args.space.now in
-    let m₁ = g.C.Chip.meaning c.find-room.new.chip in
-    let v₁ = noted c.find-room.new.journal in
-    let sp₁ = c.find-room.new.self in
+    let m₁ = g.C.Chip.meaning c.find_room.new.chip in
+    let v₁ = noted c.find_room.new.journal in
+    let sp₁ = c.find_room.new.self in
     let i = c.in-Some.page in
     let a = c.args.address.0 in
     let bytes = c.args.bytes.now in
     let m₂ = g.C.Chip.meaning c.place.new.chip in
     let sp₂ = c.place.new.self in
-    let size : pages_of c.find-room.new.journal ≡ D = ap (λ z. data_pages z.blocks) c.find-room.ensures.size in
+    let size : pages_of c.find_room.new.journal ≡ D = ap (λ z. data_pages z.blocks) c.find_room.ensures.size in
     let found = subst (λ o. FindsRoom D blocks m v sp (Ok o) m₁ v₁ sp₁) c.in-Some.is c.in-ok-page.ensures.finds in
     let laid = subst (λ d. Placed d i.0 a bytes m₁ v₁ sp₁ m₂ sp₂) size c.in-ok-place.ensures.places in
-    let m₃ = g.C.Chip.meaning c.make-roomy.new.chip in
-    let v₃ = noted c.make-roomy.new.journal in
-    let size₃ : pages_of c.make-roomy.new.journal ≡ D = ap (λ z. data_pages z.blocks) c.make-roomy.ensures.size ∙ size in
-    let roomier = subst (λ d. MakesRoomy d m₂ v₁ sp₂ (Ok tt) m₃ v₃) size c.in-ok-make-roomy.ensures.roomy in
+    let m₃ = g.C.Chip.meaning c.make_roomy.new.chip in
+    let v₃ = noted c.make_roomy.new.journal in
+    let size₃ : pages_of c.make_roomy.new.journal ≡ D = ap (λ z. data_pages z.blocks) c.make_roomy.ensures.size ∙ size in
+    let roomier = subst (λ d. MakesRoomy d m₂ v₁ sp₂ (Ok tt) m₃ v₃) size c.in-ok-make_roomy.ensures.roomy in
     let m₄ = g.C.Chip.meaning c.enter.new.chip in
     let v₄ = noted c.enter.new.journal in
     record {
       sound = c.enter.ensures.sound;
-      size = c.enter.ensures.size ∙ c.make-roomy.ensures.size ∙ c.find-room.ensures.size;
-      writes = write-ends D blocks m v sp i m₁ v₁ sp₁ found c.args.dirty a bytes m₂ sp₂ laid m₃ v₃ roomier c.enter.result m₄ v₄
+      size = c.enter.ensures.size ∙ c.make_roomy.ensures.size ∙ c.find_room.ensures.size;
+      writes = write_ends D blocks m v sp i m₁ v₁ sp₁ found c.args.dirty a bytes m₂ sp₂ laid m₃ v₃ roomier c.enter.result m₄ v₄
           (subst (λ d. Enters d c.args.dirty i.0 a m₃ v₃ sp₂ c.enter.result m₄ v₄) size₃ c.enter.ensures.enters);
     }

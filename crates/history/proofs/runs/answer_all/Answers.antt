@@ -19,8 +19,8 @@ loop-call-preserved g c =
     let served = c.serve-answer.ensures in
     let inv = c.loop-call.invariant in (
       served.sound,
-      reached_more g.C.Chip.meaning g.C.Chip.sound c.args.calls.now c.loop-call.call-index (vec_items c.loop-call.answers) (vec_items c.push-reserved.new.self)
-          c.loop-call.cache c.serve-answer.new.cache _ c.serve-answer.result c.loop-call-test.true (search rules) c.push-reserved.ensures.items inv.0 served.sound
+      reached_more g.C.Chip.meaning g.C.Chip.sound c.args.calls.now c.loop-call.call-index (vec_items c.loop-call.answers) (vec_items c.push_reserved.new.self)
+          c.loop-call.cache c.serve-answer.new.cache _ c.serve-answer.result c.loop-call-test.true (search rules) c.push_reserved.ensures.items inv.0 served.sound
           served.size served.serves inv.1,
       search rules,
       search rules,

@@ -1,8 +1,8 @@
 use Rattle.history.proofs.Followed.{follows_at_first}
 use Rattle.history.proofs.runs.run.Goals as goal
 
-pub answer-all-requires : goal.answer-all-requires
-answer-all-requires g c =
+pub answer_all-requires : goal.answer_all-requires
+answer_all-requires g c =
     let formed = c.in-Ok-form.ensures.forms.2 in
     let w = formed.0 in
     let meaning = g.C.Chip.meaning in

@@ -4,5 +4,5 @@ use Rattle.history.proofs.serving.exists.Goals as goal
 
 pub returns-in-Ok : goal.returns-in-Ok
 returns-in-Ok g c =
-    exists_served g.C.Chip.meaning c.args.first.0 c.args.len c.args.cache.now c.args.scratch.now c.exists.new.marks c.copy-from-slice.new.self _ _
-    (omega arith) c.in-Ok.ensures c.exists.auto.marks c.copy-from-slice.ensures.after
+    exists_served g.C.Chip.meaning c.args.first.0 c.args.len c.args.cache.now c.args.scratch.now c.exists.new.marks c.copy_from_slice.new.self _ _
+    (omega arith) c.in-Ok.ensures c.exists.auto.marks c.copy_from_slice.ensures.after

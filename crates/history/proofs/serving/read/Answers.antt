@@ -10,5 +10,5 @@ returns-in-Ok g c =
       size = served.size;
       serves =
           read_served g.C.Chip.meaning c.args.address.0 c.args.len c.args.cache.now c.read.new.self c.args.scratch.now c.read.new.buf
-          c.copy-from-slice.new.self _ (omega arith) served.call c.read.auto.buf c.copy-from-slice.ensures.after;
+          c.copy_from_slice.new.self _ (omega arith) served.call c.read.auto.buf c.copy_from_slice.ensures.after;
     }

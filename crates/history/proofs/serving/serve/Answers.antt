@@ -1,5 +1,5 @@
 use Rattle.std.proofs.Common.{true, false, sym, subst}
-use Rattle.cache.specs.Caches.{Write-call, Evict-call}
+use Rattle.cache.specs.Caches.{WriteCall, EvictCall}
 use Rattle.history.specs.Serving.{Serves}
 use Rattle.history.proofs.Served.{plainly}
 use Rattle.history.proofs.serving.serve.Goals as goal
@@ -8,13 +8,13 @@ pub returns-in-WriteDirty : goal.returns-in-WriteDirty
 returns-in-WriteDirty g c =
     let meaning = g.C.Chip.meaning in
     let before = c.args.cache.now in
-    let after = c.write-dirty.new.self in
+    let after = c.write_dirty.new.self in
     let done =
-    plainly (λ r. Write-call meaning true c.in-WriteDirty.address.0 c.in-WriteDirty.bytes.now before r after)
-    c.write-dirty.result c.plain.result c.plain.ensures c.write-dirty.ensures.call in
+    plainly (λ r. WriteCall meaning true c.in-WriteDirty.address.0 c.in-WriteDirty.bytes.now before r after)
+    c.write_dirty.result c.plain.result c.plain.ensures c.write_dirty.ensures.call in
     record {
-      sound = c.write-dirty.ensures.sound;
-      size = c.write-dirty.ensures.size;
+      sound = c.write_dirty.ensures.sound;
+      size = c.write_dirty.ensures.size;
       serves = subst (λ k. Serves meaning before k c.plain.result after) (sym c.in-WriteDirty.is) done;
     }
 
@@ -22,13 +22,13 @@ pub returns-in-WriteClean : goal.returns-in-WriteClean
 returns-in-WriteClean g c =
     let meaning = g.C.Chip.meaning in
     let before = c.args.cache.now in
-    let after = c.write-clean.new.self in
+    let after = c.write_clean.new.self in
     let done =
-    plainly (λ r. Write-call meaning false c.in-WriteClean.address.0 c.in-WriteClean.bytes.now before r after)
-    c.write-clean.result c.plain-in-WriteClean.result c.plain-in-WriteClean.ensures c.write-clean.ensures.call in
+    plainly (λ r. WriteCall meaning false c.in-WriteClean.address.0 c.in-WriteClean.bytes.now before r after)
+    c.write_clean.result c.plain-in-WriteClean.result c.plain-in-WriteClean.ensures c.write_clean.ensures.call in
     record {
-      sound = c.write-clean.ensures.sound;
-      size = c.write-clean.ensures.size;
+      sound = c.write_clean.ensures.sound;
+      size = c.write_clean.ensures.size;
       serves = subst (λ k. Serves meaning before k c.plain-in-WriteClean.result after) (sym c.in-WriteClean.is) done;
     }
 
@@ -38,7 +38,7 @@ returns-in-Evict g c =
     let before = c.args.cache.now in
     let after = c.evict.new.self in
     let done =
-    plainly (λ r. Evict-call meaning c.in-Evict.address.0 before r after)
+    plainly (λ r. EvictCall meaning c.in-Evict.address.0 before r after)
     c.evict.result c.plain-in-Evict.result c.plain-in-Evict.ensures c.evict.ensures.call in
     record {
       sound = c.evict.ensures.sound;

@@ -3,7 +3,7 @@ use Rattle.std.proofs.Common.{◌≡◌, ap, ◌∙◌, subst, arith}
 use Rattle.std.proofs.lemmas.Result.{err_from_is_err_and}
 use Rattle.device.specs.Chips.{block_of}
 use Rattle.layout.specs.Geometry.{first_page}
-use Rattle.journal.proofs.Clearing.{Clearing, clearing_none, clearing-more, clearing-fails, clearing-ends}
+use Rattle.journal.proofs.Clearing.{Clearing, clearing_none, clearing_more, clearing_fails, clearing_ends}
 use Rattle.journal.proofs.areas.clear_other.Goals as goal
 
 pub loop-k-init : goal.loop-k-init
@@ -19,8 +19,8 @@ returns-in-err-erase g c =
     let n' = g.C.Chip.meaning c.erase.new.self in
     let h = c.in-err-erase.ensures in
     let p = err_from_is_err_and c.from-residual.result c.from-residual.ensures.1 in
-    let first = c.erase-block-first.ensures ∙ ap block_of (c.first.ensures ∙ ap first_page c.other.ensures) in
-    let left = clearing-fails c.args.active m c.requires.settled c.loop-k.k n (c.loop-k.invariant.1 c.args.active first) c.loop-k-test.true c.requires.large _ (omega arith) n' _ h.rules in
+    let first = c.erase_block-first.ensures ∙ ap block_of (c.first.ensures ∙ ap first_page c.other.ensures) in
+    let left = clearing_fails c.args.active m c.requires.settled c.loop-k.k n (c.loop-k.invariant.1 c.args.active first) c.loop-k-test.true c.requires.large _ (omega arith) n' _ h.rules in
     record { sound = h.sound; done = rw (p.1, p.2) left.done; others = left.others; held = left.held }
 
 pub loop-k-preserved : goal.loop-k-preserved
@@ -29,7 +29,7 @@ loop-k-preserved g c =
     let n = g.C.Chip.meaning c.loop-k.chip in
     let n' = g.C.Chip.meaning c.erase.new.self in
     let h = c.in-ok-erase.ensures in
-    (h.sound, λ active e. clearing-more active m c.requires.settled c.loop-k.k n (c.loop-k.invariant.1 active e) c.loop-k-test.true c.requires.large _ (omega arith) n' h.rules)
+    (h.sound, λ active e. clearing_more active m c.requires.settled c.loop-k.k n (c.loop-k.invariant.1 active e) c.loop-k-test.true c.requires.large _ (omega arith) n' h.rules)
 
 pub sync-requires : goal.sync-requires
 sync-requires g c = c.loop-k.invariant.0
@@ -40,8 +40,8 @@ returns g c =
     let n = g.C.Chip.meaning c.loop-k.chip in
     let n' = g.C.Chip.meaning c.sync.new.self in
     let h = c.sync.ensures in
-    let first = c.erase-block-first.ensures ∙ ap block_of (c.first.ensures ∙ ap first_page c.other.ensures) in
+    let first = c.erase_block-first.ensures ∙ ap block_of (c.first.ensures ∙ ap first_page c.other.ensures) in
     let four : c.loop-k.k ≡ 4 = omega arith in
     let done = subst (λ k. Clearing c.args.active m k n) four (c.loop-k.invariant.1 c.args.active first) in
-    let left = clearing-ends c.args.active m c.requires.settled n done n' c.sync.result h.rules in
+    let left = clearing_ends c.args.active m c.requires.settled n done n' c.sync.result h.rules in
     record { sound = h.sound; done = left.done; others = left.others; held = left.held }

@@ -5,11 +5,11 @@ use Rattle.layout.specs.declared.areas.Area.TheVariants.{Two}
 use Rattle.table.specs.Tables.{empty}
 use Rattle.recovery.specs.Looking.{shown}
 use Rattle.journal.specs.Steps.{Lands, with_entries}
-use Rattle.journal.proofs.Formed.{all-formed, noted_formed, first_area}
+use Rattle.journal.proofs.Formed.{all_formed, noted_formed, first_area}
 use Rattle.journal.proofs.forming.form.Goals as goal
 
-pub fill-other-requires : goal.fill-other-requires
-fill-other-requires g c =
+pub fill_other-requires : goal.fill_other-requires
+fill_other-requires g c =
     let wiped = c.in-ok-wipe.ensures in
     record {
       sound = wiped.sound;
@@ -25,13 +25,13 @@ returns g c =
     let D = data_pages c.args.geometry.blocks in
     let m = g.C.Chip.meaning c.args.chip.now in
     let m₁ = g.C.Chip.meaning c.wipe.new.chip in
-    let m₂ = g.C.Chip.meaning c.fill-other.new.chip in
-    let m₃ = g.C.Chip.meaning c.close-other.new.chip in
+    let m₂ = g.C.Chip.meaning c.fill_other.new.chip in
+    let m₃ = g.C.Chip.meaning c.close_other.new.chip in
     let one = c.in-ok-wipe.ensures in
-    let two = c.in-ok-fill-other.ensures in
-    let three = c.in-ok-close-other.ensures in
+    let two = c.in-ok-fill_other.ensures in
+    let three = c.in-ok-close_other.ensures in
     let filled = subst (λ t. Lands m₁ (with_entries D Two t (shown m₁)) m₂) c.empty_table.ensures two.done in
     record {
       sound = three.sound;
-      formed = (c.recovered.ensures.size, all-formed D m m₁ m₂ m₃ (omega (arith, c.requires.fits)) (omega (arith, c.requires.fits)) (ap data_pages (sym c.requires.fits)) one.done filled three.done _ (c.recovered.ensures.noted ∙ noted_formed D _ c.empty_table.ensures));
+      formed = (c.recovered.ensures.size, all_formed D m m₁ m₂ m₃ (omega (arith, c.requires.fits)) (omega (arith, c.requires.fits)) (ap data_pages (sym c.requires.fits)) one.done filled three.done _ (c.recovered.ensures.noted ∙ noted_formed D _ c.empty_table.ensures));
     }

@@ -1,6 +1,6 @@
 use Rattle.std.proofs.Common.{◌≡◌, ◌<◌, arith}
 use Rattle.std.proofs.lemmas.Result.{err_from_is_err_and}
-use Rattle.journal.proofs.Wiping.{wiping_none, wiping-failed, wiping-more, wiped}
+use Rattle.journal.proofs.Wiping.{wiping_none, wiping_failed, wiping_more, wiped}
 use Rattle.journal.proofs.forming.wipe.Goals as goal
 
 pub loop-b-init : goal.loop-b-init
@@ -19,7 +19,7 @@ returns-in-err-erase g c =
     let inside : c.loop-b.b < m.size = omega (arith, c.requires.fits) in
     record {
       sound = h.sound;
-      done = rw (p.1, p.2) (wiping-failed m n c.loop-b.b c.requires.settled c.loop-b.invariant.1 k _ inside h.rules);
+      done = rw (p.1, p.2) (wiping_failed m n c.loop-b.b c.requires.settled c.loop-b.invariant.1 k _ inside h.rules);
     }
 
 pub loop-b-preserved : goal.loop-b-preserved
@@ -28,7 +28,7 @@ loop-b-preserved g c =
     let n = g.C.Chip.meaning c.loop-b.chip in
     let k = g.C.Chip.meaning c.erase.new.self in
     let h = c.in-ok-erase.ensures in
-    (h.sound, wiping-more m n c.loop-b.b c.requires.settled c.loop-b.invariant.1 k h.rules)
+    (h.sound, wiping_more m n c.loop-b.b c.requires.settled c.loop-b.invariant.1 k h.rules)
 
 pub sync-requires : goal.sync-requires
 sync-requires g c = c.loop-b.invariant.0

@@ -3,7 +3,7 @@ use Rattle.std.specs.List.{flat_map}
 use Rattle.std.proofs.lemmas.Bool.{false≢true}
 use Rattle.std.proofs.lemmas.List.{length_push}
 use Rattle.std.proofs.ByRecursion.{All-push}
-use Rattle.layout.proofs.Cellwise.{cell-proper, rest-zero, push-more, get-all}
+use Rattle.layout.proofs.Cellwise.{cell_proper, rest_zero, push_more, get_all}
 use Rattle.layout.proofs.pages.holds_cells.Goals as goal
 
 pub returns-in-None : goal.returns-in-None
@@ -11,7 +11,7 @@ returns-in-None g c = record {
   yes = λ e. absurd (false≢true e);
   no = λ _ xs n ps e.
       let l : c.loop-k.k < length xs = omega arith in
-      let t = cell-proper g.C.Cell.bytes g.met.C.Cell.eight g.C.Cell.proper c.args.page.now xs c.loop-k.k e l ps in
+      let t = cell_proper g.C.Cell.bytes g.met.C.Cell.eight g.C.Cell.proper c.args.page.now xs c.loop-k.k e l ps in
       c.in-None.ensures t.0 t.1 t.2;
 }
 
@@ -24,7 +24,7 @@ loop-k-preserved g c =
       inv.0 ++ (x ∷ []),
       length_push inv.0 x ∙ ap (λ m. m + 1) n,
       All-push g.C.Cell.proper inv.0 x inv.2 t.0,
-      push-more g.C.Cell.bytes g.met.C.Cell.eight c.args.page.now inv.0 c.loop-k.k x inv.3 t.1,
+      push_more g.C.Cell.bytes g.met.C.Cell.eight c.args.page.now inv.0 c.loop-k.k x inv.3 t.1,
     )
 
 pub returns : goal.returns
@@ -39,9 +39,9 @@ returns g c = record {
         xs,
         m,
         inv.2,
-        get-all g.C.Cell.bytes g.met.C.Cell.eight c.args.page.now xs c.requires.whole few front
-            (λ k h i. c.zero-from.ensures.yes e k (omega arith) i),
+        get_all g.C.Cell.bytes g.met.C.Cell.eight c.args.page.now xs c.requires.whole few front
+            (λ k h i. c.zero_from.ensures.yes e k (omega arith) i),
       );
   no = λ e xs n ps f.
-      c.zero-from.ensures.no e (λ k h i. rest-zero g.C.Cell.bytes g.met.C.Cell.eight c.args.page.now xs k f (omega arith));
+      c.zero_from.ensures.no e (λ k h i. rest_zero g.C.Cell.bytes g.met.C.Cell.eight c.args.page.now xs k f (omega arith));
 }

@@ -4,45 +4,45 @@ use Rattle.layout.specs.Geometry.{data_pages, entry_pages}
 use Rattle.recovery.specs.Looking.{shown}
 use Rattle.recovery.specs.Recovering.{Entered}
 use Rattle.recovery.proofs.Lookwise.{quiet_then}
-use Rattle.recovery.proofs.Pageful.{reading_none, reading-sofar, reading-more, reading-fails}
+use Rattle.recovery.proofs.Pageful.{reading_none, reading_sofar, reading_more, reading_fails}
 use Rattle.recovery.proofs.checkpoint.read_pages.Goals as goal
 
 pub loop-j-init : goal.loop-j-init
 loop-j-init g c = reading_none (g.C.Chip.sound c.args.chip.now) _ _ _ _ c.requires.sound c.requires.long
 
-pub read-page-requires : goal.read-page-requires
-read-page-requires g c =
+pub read_page-requires : goal.read_page-requires
+read_page-requires g c =
     let n = g.C.Chip.meaning c.loop-j.chip in
     record {
       sound = c.loop-j.invariant.sound;
       fits = c.loop-j.invariant.quiet.size ∙ c.requires.fits;
       whole = c.loop-j.auto.buf ∙ c.requires.whole;
       few = omega arith;
-      sofar = reading-sofar (g.C.Chip.sound c.loop-j.chip) (data_pages c.args.geometry.blocks) c.args.area (g.C.Chip.meaning c.args.chip.now) n n c.loop-j.j c.loop-j.table c.loop-j.invariant;
+      sofar = reading_sofar (g.C.Chip.sound c.loop-j.chip) (data_pages c.args.geometry.blocks) c.args.area (g.C.Chip.meaning c.args.chip.now) n n c.loop-j.j c.loop-j.table c.loop-j.invariant;
     }
 
-pub returns-in-err-read-page : goal.returns-in-err-read-page
-returns-in-err-read-page g c =
+pub returns-in-err-read_page : goal.returns-in-err-read_page
+returns-in-err-read_page g c =
     let m = g.C.Chip.meaning c.args.chip.now in
     let n = g.C.Chip.meaning c.loop-j.chip in
-    let k = g.C.Chip.meaning c.read-page.new.chip in
-    let page = c.in-err-read-page.ensures in
+    let k = g.C.Chip.meaning c.read_page.new.chip in
+    let page = c.in-err-read_page.ensures in
     let p = err_from_is_err_and c.from-residual.result c.from-residual.ensures.1 in
     let few : c.loop-j.j < entry_pages (data_pages c.args.geometry.blocks) = omega arith in
     record {
       sound = page.sound;
       quiet = quiet_then m n k c.loop-j.invariant.quiet page.quiet;
-      found = rw (p.1, p.2) (reading-fails (g.C.Chip.sound c.loop-j.chip) (data_pages c.args.geometry.blocks) c.args.area m n k c.loop-j.j c.loop-j.table c.loop-j.invariant _ few page.found);
+      found = rw (p.1, p.2) (reading_fails (g.C.Chip.sound c.loop-j.chip) (data_pages c.args.geometry.blocks) c.args.area m n k c.loop-j.j c.loop-j.table c.loop-j.invariant _ few page.found);
     }
 
 pub loop-j-preserved : goal.loop-j-preserved
 loop-j-preserved g c =
     let m = g.C.Chip.meaning c.args.chip.now in
     let n = g.C.Chip.meaning c.loop-j.chip in
-    let k = g.C.Chip.meaning c.read-page.new.chip in
-    let page = c.in-ok-read-page.ensures in
-    reading-more (g.C.Chip.sound c.loop-j.chip) (data_pages c.args.geometry.blocks) c.args.area m n k c.loop-j.j c.loop-j.table c.loop-j.invariant
-    (g.C.Chip.sound c.read-page.new.chip) c.read-page.new.table page.sound page.quiet page.found.0 page.found.1
+    let k = g.C.Chip.meaning c.read_page.new.chip in
+    let page = c.in-ok-read_page.ensures in
+    reading_more (g.C.Chip.sound c.loop-j.chip) (data_pages c.args.geometry.blocks) c.args.area m n k c.loop-j.j c.loop-j.table c.loop-j.invariant
+    (g.C.Chip.sound c.read_page.new.chip) c.read_page.new.table page.sound page.quiet page.found.0 page.found.1
 
 pub returns : goal.returns
 returns g c =

@@ -3,7 +3,7 @@ use Rattle.std.proofs.lemmas.Result.{err_from_is_err_and}
 use Rattle.layout.specs.Geometry.{data_pages, log_pages}
 use Rattle.table.specs.Views.{table_of}
 use Rattle.recovery.proofs.Lookwise.{quiet_then}
-use Rattle.recovery.proofs.Logwise.{logged-more, logged-stuck}
+use Rattle.recovery.proofs.Logwise.{logged_more, logged_stuck}
 use Rattle.recovery.proofs.log.replay_log.Goals as goal
 
 pub returns-in-err-next : goal.returns-in-err-next
@@ -11,15 +11,15 @@ returns-in-err-next g c =
     let D = data_pages c.args.geometry.blocks in
     let m = g.C.Chip.meaning c.args.chip.now in
     let m₁ = g.C.Chip.meaning c.loop-j.chip in
-    let m₂ = g.C.Chip.meaning c.replay-at.new.chip in
+    let m₂ = g.C.Chip.meaning c.replay_at.new.chip in
     let h = c.in-err-next.ensures in
     let inv = c.loop-j.invariant in
-    let l : c.loop-j.j < log_pages D = omega (arith, c.loop-j-test.true, c.log-pages-j-end.ensures) in
+    let l : c.loop-j.j < log_pages D = omega (arith, c.loop-j-test.true, c.log_pages-j-end.ensures) in
     let p = err_from_is_err_and c.from-residual.result c.from-residual.ensures.1 in
     record {
       sound = h.sound;
       quiet = quiet_then m m₁ m₂ inv.2 h.quiet;
-      found = rw (p.1, p.2) (logged-stuck D m m₁ c.args.area c.loop-j.j (table_of c.args.table.now) (table_of c.loop-j.table) c.loop-j.next inv.2 inv.3 m₂ _ l h.found);
+      found = rw (p.1, p.2) (logged_stuck D m m₁ c.args.area c.loop-j.j (table_of c.args.table.now) (table_of c.loop-j.table) c.loop-j.next inv.2 inv.3 m₂ _ l h.found);
     }
 
 pub loop-j-preserved : goal.loop-j-preserved
@@ -27,11 +27,11 @@ loop-j-preserved g c =
     let D = data_pages c.args.geometry.blocks in
     let m = g.C.Chip.meaning c.args.chip.now in
     let m₁ = g.C.Chip.meaning c.loop-j.chip in
-    let m₂ = g.C.Chip.meaning c.replay-at.new.chip in
+    let m₂ = g.C.Chip.meaning c.replay_at.new.chip in
     let h = c.in-ok-next.ensures in
     let inv = c.loop-j.invariant in (
       h.sound,
       h.found.0,
       quiet_then m m₁ m₂ inv.2 h.quiet,
-      logged-more D m m₁ c.args.area c.loop-j.j (table_of c.args.table.now) (table_of c.loop-j.table) c.loop-j.next inv.2 inv.3 (table_of c.replay-at.new.table) _ h.found.1,
+      logged_more D m m₁ c.args.area c.loop-j.j (table_of c.args.table.now) (table_of c.loop-j.table) c.loop-j.next inv.2 inv.3 (table_of c.replay_at.new.table) _ h.found.1,
     )

@@ -1,28 +1,28 @@
 use Rattle.std.proofs.lemmas.Result.{err_from_is_err_and}
 use Rattle.layout.specs.Geometry.{data_pages}
 use Rattle.recovery.proofs.Lookwise.{quiet_then}
-use Rattle.recovery.proofs.Trailerwise.{second-failed, both_found}
+use Rattle.recovery.proofs.Trailerwise.{second_failed, both_found}
 use Rattle.recovery.proofs.trailers.active_area.Goals as goal
 
 pub returns-in-err-two : goal.returns-in-err-two
 returns-in-err-two g c =
     let m = g.C.Chip.meaning c.args.chip.now in
     let m₁ = g.C.Chip.meaning c.trailer_of.new.chip in
-    let m₂ = g.C.Chip.meaning c.trailer-of-2.new.chip in
+    let m₂ = g.C.Chip.meaning c.trailer_of-2.new.chip in
     let one = c.in-ok-one.ensures in
     let two = c.in-err-two.ensures in
     let p = err_from_is_err_and c.from-residual-in-err-two.result c.from-residual-in-err-two.ensures.1 in
     record {
       sound = two.sound;
       quiet = quiet_then m m₁ m₂ one.quiet two.quiet;
-      found = rw (p.1, p.2) (second-failed (data_pages c.args.geometry.blocks) m m₁ m₂ c.in-ok-one.one one.quiet one.found.1 _ two.found);
+      found = rw (p.1, p.2) (second_failed (data_pages c.args.geometry.blocks) m m₁ m₂ c.in-ok-one.one one.quiet one.found.1 _ two.found);
     }
 
 pub returns : goal.returns
 returns g c =
     let m = g.C.Chip.meaning c.args.chip.now in
     let m₁ = g.C.Chip.meaning c.trailer_of.new.chip in
-    let m₂ = g.C.Chip.meaning c.trailer-of-2.new.chip in
+    let m₂ = g.C.Chip.meaning c.trailer_of-2.new.chip in
     let one = c.in-ok-one.ensures in
     let two = c.in-ok-two.ensures in
     record {

@@ -8,23 +8,23 @@ use Rattle.recovery.specs.Recovering.{Entered}
 use Rattle.recovery.proofs.Wholly.{entered_proper, whole_array}
 use Rattle.recovery.proofs.whole.read_table.Goals as goal
 
-pub of-entries-requires : goal.of-entries-requires
-of-entries-requires g c =
+pub of_entries-requires : goal.of_entries-requires
+of_entries-requires g c =
     let D = data_pages c.args.geometry.blocks in
-    let pages = c.in-ok-read-pages.ensures in
-    let t = c.read-pages.new.table in
+    let pages = c.in-ok-read_pages.ensures in
+    let t = c.read_pages.new.table in
     record {
-      whole = whole_array t _ c.data-pages-count.result (length-replicate {A = Entry} 448 empty) (pages.found.1.long ∙ sym c.data-pages-count.ensures) (omega arith);
+      whole = whole_array t _ c.data_pages-count.result (length-replicate {A = Entry} 448 empty) (pages.found.1.long ∙ sym c.data_pages-count.ensures) (omega arith);
       proper = subst ProperTable (sym (take_at t _ D pages.found.1.long)) (entered_proper D (shown (g.C.Chip.meaning c.args.chip.now)) c.args.area t pages.found.1);
     }
 
 pub returns : goal.returns
 returns g c =
     let D = data_pages c.args.geometry.blocks in
-    let pages = c.in-ok-read-pages.ensures in
-    let t = c.read-pages.new.table in
+    let pages = c.in-ok-read_pages.ensures in
+    let t = c.read_pages.new.table in
     record {
       sound = pages.sound;
       quiet = pages.quiet;
-      found = (pages.found.0, subst (Entered D (shown (g.C.Chip.meaning c.args.chip.now)) c.args.area (entry_pages D)) (sym (c.of-entries.ensures ∙ take_at t _ D pages.found.1.long)) pages.found.1);
+      found = (pages.found.0, subst (Entered D (shown (g.C.Chip.meaning c.args.chip.now)) c.args.area (entry_pages D)) (sym (c.of_entries.ensures ∙ take_at t _ D pages.found.1.long)) pages.found.1);
     }

@@ -6,7 +6,7 @@ use Rattle.recovery.specs.Looking.{shown, Stage}
 use Rattle.recovery.specs.Recovering.{Active, Entered, Recovered, Failed}
 use Rattle.recovery.specs.Restoring.{found_of}
 use Rattle.recovery.proofs.Lookwise.{quiet_then}
-use Rattle.recovery.proofs.Wholly.{entries-failed, moved}
+use Rattle.recovery.proofs.Wholly.{entries_failed, moved}
 use Rattle.recovery.proofs.whole.restore.Goals as goal
 
 pub returns-in-err-table : goal.returns-in-err-table
@@ -17,21 +17,21 @@ returns-in-err-table g c =
     record {
       sound = table.sound;
       quiet = table.quiet;
-      found = rw (p.1, p.2) (entries-failed (data_pages c.args.geometry.blocks) (shown m) c.args.area c.args.number c.requires.active _ (g.C.Chip.meaning c.read-table.new.chip) table.found);
+      found = rw (p.1, p.2) (entries_failed (data_pages c.args.geometry.blocks) (shown m) c.args.area c.args.number c.requires.active _ (g.C.Chip.meaning c.read_table.new.chip) table.found);
     }
 
 pub finish-requires : goal.finish-requires
 finish-requires g c =
     let D = data_pages c.args.geometry.blocks in
     let m = g.C.Chip.meaning c.args.chip.now in
-    let m₁ = g.C.Chip.meaning c.read-table.new.chip in
+    let m₁ = g.C.Chip.meaning c.read_table.new.chip in
     let table = c.in-ok-table.ensures in
     let back = sym (moved m m₁ table.quiet) in
     record {
       sound = table.sound;
       on = table.found.0;
       fits = table.quiet.size ∙ c.requires.fits;
-      whole = c.read-table.auto.buf ∙ c.requires.whole;
+      whole = c.read_table.auto.buf ∙ c.requires.whole;
       active = subst (λ s. Active D s c.args.area c.args.number) back c.requires.active;
       entries = subst (λ s. Entered D s c.args.area (entry_pages D) (table_of c.in-ok-table.table)) back table.found.1;
     }
@@ -40,7 +40,7 @@ pub returns : goal.returns
 returns g c =
     let D = data_pages c.args.geometry.blocks in
     let m = g.C.Chip.meaning c.args.chip.now in
-    let m₁ = g.C.Chip.meaning c.read-table.new.chip in
+    let m₁ = g.C.Chip.meaning c.read_table.new.chip in
     let m₂ = g.C.Chip.meaning c.finish.new.chip in
     let table = c.in-ok-table.ensures in
     let rest = c.finish.ensures in

@@ -2,7 +2,7 @@
 use Rattle.std.proofs.Common.{◌≡◌, Err, sym, ap, ◌∙◌}
 use Rattle.std.proofs.lemmas.Result.{err_from_is_err_and}
 use Rattle.layout.specs.Geometry.{geometry_refusal}
-use Rattle.cache.proofs.Starting.{adopted, not-adopted}
+use Rattle.cache.proofs.Starting.{adopted, not_adopted}
 use Rattle.cache.proofs.bare.BareCache.adopt.Goals as goal
 
 pub returns-in-err-memory : goal.returns-in-err-memory
@@ -10,7 +10,7 @@ returns-in-err-memory g c =
     let number = c.blocks-2.ensures.number in
     let fit = c.in-ok-geometry.ensures in
     let p = err_from_is_err_and {Q = λ f. f ≡ c.in-err-memory.field-0.0} c.from-residual-in-err-memory.result c.from-residual-in-err-memory.ensures.1 in
-    let h = not-adopted g.C.Chip.meaning g.C.Chip.sound c.args.self.now c.in-ok-geometry.geometry (ap geometry_refusal (sym number) ∙ fit.0) (fit.1 ∙ number)
+    let h = not_adopted g.C.Chip.meaning g.C.Chip.sound c.args.self.now c.in-ok-geometry.geometry (ap geometry_refusal (sym number) ∙ fit.0) (fit.1 ∙ number)
     c.wake.new.chip c.in-err-memory.ensures.sound c.in-err-memory.field-0.0 c.from-residual-in-err-memory.result (p.1 ∙ ap Err p.2) c.in-err-memory.ensures.wakes in
     record { sound = h.sound; adopts = h.call }
 

@@ -4,14 +4,14 @@ use Rattle.layout.specs.declared.entries.Mark.TheVariants.{Dirty}
 use Rattle.table.specs.Tables.{mark_of}
 use Rattle.table.specs.Views.{table_of}
 use Rattle.journal.specs.Notes.{noted}
-use Rattle.cache.proofs.Calling.{found-mark, found-clean, clean-done, clean-done-already}
+use Rattle.cache.proofs.Calling.{found_mark, found_clean, clean_done, clean_done_already}
 use Rattle.cache.proofs.working.Cache.clean.Goals as goal
 
 pub clean-answer-requires : goal.clean-answer-requires
 clean-answer-requires g c = record {
   sound = c.requires.chip;
   holding = c.requires.on c.in-ok-awake.ensures;
-  dirty = found-mark (noted c.args.self.now.journal).table (table_of c.table.result.now) c.args.address.0 c.in-ok-page.page.0 c.entry.result
+  dirty = found_mark (noted c.args.self.now.journal).table (table_of c.table.result.now) c.args.address.0 c.in-ok-page.page.0 c.entry.result
       c.in-ok-page.ensures.1 c.table.ensures c.entry.ensures ∙ c.in-Dirty.is;
 }
 
@@ -19,9 +19,9 @@ pub returns-in-Dirty : goal.returns-in-Dirty
 returns-in-Dirty g c =
     let cleaned = c.clean-answer.ensures in
     let dirty : mark_of (noted c.args.self.now.journal).table c.args.address.0 ≡ Dirty =
-    found-mark (noted c.args.self.now.journal).table (table_of c.table.result.now) c.args.address.0 c.in-ok-page.page.0 c.entry.result
+    found_mark (noted c.args.self.now.journal).table (table_of c.table.result.now) c.args.address.0 c.in-ok-page.page.0 c.entry.result
     c.in-ok-page.ensures.1 c.table.ensures c.entry.ensures ∙ c.in-Dirty.is in
-    let h = clean-done g.C.Chip.meaning g.C.Chip.sound c.args.self.now c.requires c.in-ok-awake.ensures
+    let h = clean_done g.C.Chip.meaning g.C.Chip.sound c.args.self.now c.requires c.in-ok-awake.ensures
     c.clean-answer.new.chip c.clean-answer.new.journal cleaned.sound cleaned.size
     c.args.address.0 c.in-ok-page.ensures.0 dirty
     c.clean-answer.result c.remember.result c.remember.new.self c.remember.ensures.answer c.remember.ensures.off cleaned.cleans in
@@ -29,8 +29,8 @@ returns-in-Dirty g c =
 
 pub returns-in-Clean : goal.returns-in-Clean
 returns-in-Clean g c =
-    let clean = found-clean (noted c.args.self.now.journal).table (table_of c.table.result.now) c.args.address.0 c.in-ok-page.page.0 c.entry.result
+    let clean = found_clean (noted c.args.self.now.journal).table (table_of c.table.result.now) c.args.address.0 c.in-ok-page.page.0 c.entry.result
     c.in-ok-page.ensures.1 c.table.ensures c.entry.ensures c.in-Clean.is in
-    let h = clean-done-already g.C.Chip.meaning g.C.Chip.sound c.args.self.now c.requires c.in-ok-awake.ensures
+    let h = clean_done_already g.C.Chip.meaning g.C.Chip.sound c.args.self.now c.requires c.in-ok-awake.ensures
     c.args.address.0 c.in-ok-page.ensures.0 clean in
     record { sound = h.sound; size = h.size; call = h.call }

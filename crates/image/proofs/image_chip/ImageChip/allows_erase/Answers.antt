@@ -4,14 +4,14 @@ use Rattle.device.specs.Faults.{chip_fault}
 use Rattle.image.proofs.Chipside.{erase_answer}
 use Rattle.image.proofs.image_chip.ImageChip.allows_erase.Goals as goal
 
-pub returns-then-any-unsettled : goal.returns-then-any-unsettled
-returns-then-any-unsettled c =
-    erase_answer c.args.self.now.on c.args.self.now.image.now c.args.block.0 c.any-unsettled.result c.requires c.if-not-self.false (omega arith)
-    c.any-unsettled.ensures
-    ∙ ap (λ z. cond z (Some (chip_fault c.args.block.0 Unsettled)) None) c.if-any-unsettled.true ∙ ap Some (sym c.refuse-then-any-unsettled.ensures)
+pub returns-then-any_unsettled : goal.returns-then-any_unsettled
+returns-then-any_unsettled c =
+    erase_answer c.args.self.now.on c.args.self.now.image.now c.args.block.0 c.any_unsettled.result c.requires c.if-not-self.false (omega arith)
+    c.any_unsettled.ensures
+    ∙ ap (λ z. cond z (Some (chip_fault c.args.block.0 Unsettled)) None) c.if-any_unsettled.true ∙ ap Some (sym c.refuse-then-any_unsettled.ensures)
 
 pub returns : goal.returns
 returns c =
-    erase_answer c.args.self.now.on c.args.self.now.image.now c.args.block.0 c.any-unsettled.result c.requires c.if-not-self.false (omega arith)
-    c.any-unsettled.ensures
-    ∙ ap (λ z. cond z (Some (chip_fault c.args.block.0 Unsettled)) None) c.if-any-unsettled.false
+    erase_answer c.args.self.now.on c.args.self.now.image.now c.args.block.0 c.any_unsettled.result c.requires c.if-not-self.false (omega arith)
+    c.any_unsettled.ensures
+    ∙ ap (λ z. cond z (Some (chip_fault c.args.block.0 Unsettled)) None) c.if-any_unsettled.false

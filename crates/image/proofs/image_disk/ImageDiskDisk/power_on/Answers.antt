@@ -1,10 +1,10 @@
 -- The power-on by the rules, from what it does exactly.
 use Rattle.image.specs.OfDisk.{disk_view}
-use Rattle.image.proofs.Diskside.{block-powers-rules}
+use Rattle.image.proofs.Diskside.{block_powers_rules}
 use Rattle.image.proofs.image_disk.ImageDiskDisk.power_on.Goals as goal
 
 pub returns : goal.returns
 returns c = record {
-  sound = c.cut-and-power.ensures.whole;
-  rules = block-powers-rules (disk_view c.args.self.now) (disk_view c.cut-and-power.new.self) c.cut-and-power.ensures.exact;
+  sound = c.cut_and_power.ensures.whole;
+  rules = block_powers_rules (disk_view c.args.self.now) (disk_view c.cut_and_power.new.self) c.cut_and_power.ensures.exact;
 }

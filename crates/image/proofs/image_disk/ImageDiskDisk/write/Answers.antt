@@ -1,10 +1,10 @@
 -- The write by the rules, from what it does exactly.
 use Rattle.image.specs.OfDisk.{disk_view}
-use Rattle.image.proofs.Diskside.{block-writes-rules}
+use Rattle.image.proofs.Diskside.{block_writes_rules}
 use Rattle.image.proofs.image_disk.ImageDiskDisk.write.Goals as goal
 
 pub returns : goal.returns
 returns c = record {
-  sound = c.write-frame.ensures.whole;
-  rules = block-writes-rules (disk_view c.args.self.now) (disk_view c.write-frame.new.self) c.args.block.0 c.args.bytes.now c.write-frame.result c.write-frame.ensures.exact;
+  sound = c.write_frame.ensures.whole;
+  rules = block_writes_rules (disk_view c.args.self.now) (disk_view c.write_frame.new.self) c.args.block.0 c.args.bytes.now c.write_frame.result c.write_frame.ensures.exact;
 }

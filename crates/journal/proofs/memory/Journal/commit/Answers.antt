@@ -4,15 +4,15 @@ use Rattle.std.proofs.lemmas.Result.{err_from_is_err_and}
 use Rattle.layout.specs.Geometry.{log_pages}
 use Rattle.journal.specs.Notes.{noted, pages_of}
 use Rattle.journal.proofs.Noting.{count_some, count_none}
-use Rattle.journal.proofs.Committing.{unsynced, synced-flat, synced-ready, commit_nothing, commit-logged, commit-checkpointed}
+use Rattle.journal.proofs.Committing.{unsynced, synced_flat, synced_ready, commit_nothing, commit_logged, commit_checkpointed}
 use Rattle.journal.proofs.memory.Journal.commit.Goals as goal
 
-pub returns-in-err-settle-data : goal.returns-in-err-settle-data
-returns-in-err-settle-data g c =
+pub returns-in-err-settle_data : goal.returns-in-err-settle_data
+returns-in-err-settle_data g c =
     let j = c.args.self.now in
     let m = g.C.Chip.meaning c.args.chip.now in
-    let m₁ = g.C.Chip.meaning c.settle-data.new.chip in
-    let h = c.in-err-settle-data.ensures in
+    let m₁ = g.C.Chip.meaning c.settle_data.new.chip in
+    let h = c.in-err-settle_data.ensures in
     let p = err_from_is_err_and c.from-residual.result c.from-residual.ensures.1 in
     record { sound = h.sound; size = refl; commits = rw (p.1, p.2) (unsynced (pages_of j) m m₁ (noted j) _ c.requires.ready h.rules) }
 
@@ -20,60 +20,60 @@ pub returns-then-self-eq0 : goal.returns-then-self-eq0
 returns-then-self-eq0 g c =
     let j = c.args.self.now in
     let m = g.C.Chip.meaning c.args.chip.now in
-    let m₁ = g.C.Chip.meaning c.settle-data.new.chip in
-    let h = c.in-ok-settle-data.ensures in
+    let m₁ = g.C.Chip.meaning c.settle_data.new.chip in
+    let h = c.in-ok-settle_data.ensures in
     record { sound = h.sound; size = refl; commits = commit_nothing (pages_of j) m m₁ (noted j) h.rules (count_none j.staged j.count c.if-self-eq0.true) }
 
 pub log-requires : goal.log-requires
 log-requires g c =
     let j = c.args.self.now in
     let m = g.C.Chip.meaning c.args.chip.now in
-    let m₁ = g.C.Chip.meaning c.settle-data.new.chip in
-    let h = c.in-ok-settle-data.ensures in
+    let m₁ = g.C.Chip.meaning c.settle_data.new.chip in
+    let h = c.in-ok-settle_data.ensures in
     record {
       sound = h.sound;
-      ready = synced-ready (pages_of j) m m₁ (noted j) h.rules c.requires.ready;
-      settled = synced-flat (pages_of j) m m₁ (noted j) h.rules;
+      ready = synced_ready (pages_of j) m m₁ (noted j) h.rules c.requires.ready;
+      settled = synced_flat (pages_of j) m m₁ (noted j) h.rules;
       some = count_some j.staged j.count j.whole j.few c.if-self-eq0.false;
-      room = omega (arith, c.if-self-log-pages.true, c.log_pages.ensures);
+      room = omega (arith, c.if-self-log_pages.true, c.log_pages.ensures);
     }
 
 pub checkpoint-requires : goal.checkpoint-requires
 checkpoint-requires g c =
     let j = c.args.self.now in
     let m = g.C.Chip.meaning c.args.chip.now in
-    let m₁ = g.C.Chip.meaning c.settle-data.new.chip in
-    let h = c.in-ok-settle-data.ensures in
+    let m₁ = g.C.Chip.meaning c.settle_data.new.chip in
+    let h = c.in-ok-settle_data.ensures in
     record {
       sound = h.sound;
-      ready = synced-ready (pages_of j) m m₁ (noted j) h.rules c.requires.ready;
-      settled = synced-flat (pages_of j) m m₁ (noted j) h.rules;
+      ready = synced_ready (pages_of j) m m₁ (noted j) h.rules c.requires.ready;
+      settled = synced_flat (pages_of j) m m₁ (noted j) h.rules;
     }
 
-pub returns-then-self-log-pages : goal.returns-then-self-log-pages
-returns-then-self-log-pages g c =
+pub returns-then-self-log_pages : goal.returns-then-self-log_pages
+returns-then-self-log_pages g c =
     let j = c.args.self.now in
     let m = g.C.Chip.meaning c.args.chip.now in
-    let m₁ = g.C.Chip.meaning c.settle-data.new.chip in
+    let m₁ = g.C.Chip.meaning c.settle_data.new.chip in
     let m₂ = g.C.Chip.meaning c.log.new.chip in
-    let room : j.next < log_pages (pages_of j) = omega (arith, c.if-self-log-pages.true, c.log_pages.ensures) in
+    let room : j.next < log_pages (pages_of j) = omega (arith, c.if-self-log_pages.true, c.log_pages.ensures) in
     record {
       sound = c.log.ensures.sound;
       size = c.log.ensures.size;
-      commits = commit-logged (pages_of j) m m₁ m₂ (noted j) (noted c.log.new.self) c.log.result c.in-ok-settle-data.ensures.rules
+      commits = commit_logged (pages_of j) m m₁ m₂ (noted j) (noted c.log.new.self) c.log.result c.in-ok-settle_data.ensures.rules
           (count_some j.staged j.count j.whole j.few c.if-self-eq0.false) room c.log.ensures.commits;
     }
 
-pub returns-else-self-log-pages : goal.returns-else-self-log-pages
-returns-else-self-log-pages g c =
+pub returns-else-self-log_pages : goal.returns-else-self-log_pages
+returns-else-self-log_pages g c =
     let j = c.args.self.now in
     let m = g.C.Chip.meaning c.args.chip.now in
-    let m₁ = g.C.Chip.meaning c.settle-data.new.chip in
+    let m₁ = g.C.Chip.meaning c.settle_data.new.chip in
     let m₂ = g.C.Chip.meaning c.checkpoint.new.chip in
-    let full : log_pages (pages_of j) ≤ j.next = omega (arith, c.if-self-log-pages.false, c.log_pages.ensures) in
+    let full : log_pages (pages_of j) ≤ j.next = omega (arith, c.if-self-log_pages.false, c.log_pages.ensures) in
     record {
       sound = c.checkpoint.ensures.sound;
       size = c.checkpoint.ensures.size;
-      commits = commit-checkpointed (pages_of j) m m₁ m₂ (noted j) (noted c.checkpoint.new.self) c.checkpoint.result c.in-ok-settle-data.ensures.rules
+      commits = commit_checkpointed (pages_of j) m m₁ m₂ (noted j) (noted c.checkpoint.new.self) c.checkpoint.result c.in-ok-settle_data.ensures.rules
           (count_some j.staged j.count j.whole j.few c.if-self-eq0.false) full c.checkpoint.ensures.commits;
     }

@@ -5,7 +5,7 @@ use Rattle.table.specs.Tables.{ProperTable}
 use Rattle.table.proofs.Keeping.{table_proper}
 use Rattle.journal.specs.Notes.{noted}
 use Rattle.journal.specs.Drops.{dropping_page}
-use Rattle.journal.proofs.Dropped.{dropped_none, dropped_all, dropped-beside, dropped-more}
+use Rattle.journal.proofs.Dropped.{dropped_none, dropped_all, dropped_beside, dropped_more}
 use Rattle.journal.proofs.Spared.{upto_few}
 use Rattle.journal.proofs.memory.Journal.drop_block.Goals as goal
 use Rattle.journal.proofs.memory.Journal.drop_block.Goals.{then-erase-block-block, else-erase-block-block}
@@ -13,8 +13,8 @@ use Rattle.journal.proofs.memory.Journal.drop_block.Goals.{then-erase-block-bloc
 pub loop-i-init : goal.loop-i-init
 loop-i-init c = (refl, dropped_none c.args.block.0 (noted c.args.self.now))
 
-pub drop-page-requires : goal.drop-page-requires
-drop-page-requires c = record {
+pub drop_page-requires : goal.drop_page-requires
+drop_page-requires c = record {
   room = omega (arith, ap (λ v. length v.staged) c.loop-i.invariant.1, upto_few c.args.block.0 c.loop-i.i (noted c.args.self.now) c.requires.none);
 }
 
@@ -25,16 +25,16 @@ loop-i-preserved c =
     let v = noted c.args.self.now in
     let inv = c.loop-i.invariant in
     let inside : i < length v.table = omega (arith, c.loop-i-test.true, c.len-i-end.ensures) in
-    let at : c.erase-block.result.0 ≡ block_of (data_page_at i) = c.erase-block.ensures ∙ ap block_of c.chip-page.ensures in
-    elim c.if-erase-block-block.branch [
+    let at : c.erase_block.result.0 ≡ block_of (data_page_at i) = c.erase_block.ensures ∙ ap block_of c.chip_page.ensures in
+    elim c.if-erase_block-block.branch [
       | then-erase-block-block w ↦ (
-        ap (λ j. j.geometry) w.self-is ∙ w.drop-page.ensures.size ∙ inv.0,
-        ap noted w.self-is ∙ w.drop-page.ensures.after ∙ ap (dropping_page i) inv.1
-            ∙ dropped-more b i v inside (eq-eqb (block_of (data_page_at i)) b (sym at ∙ w.if-erase-block-block.true)) (subst ProperTable (ap (λ x. x.table) inv.1) (table_proper c.loop-i.self.table)),
+        ap (λ j. j.geometry) w.self-is ∙ w.drop_page.ensures.size ∙ inv.0,
+        ap noted w.self-is ∙ w.drop_page.ensures.after ∙ ap (dropping_page i) inv.1
+            ∙ dropped_more b i v inside (eq-eqb (block_of (data_page_at i)) b (sym at ∙ w.if-erase_block-block.true)) (subst ProperTable (ap (λ x. x.table) inv.1) (table_proper c.loop-i.self.table)),
       )
       | else-erase-block-block w ↦ (
         ap (λ j. j.geometry) w.self-is ∙ inv.0,
-        ap noted w.self-is ∙ inv.1 ∙ dropped-beside b i v inside (ne_eqb (block_of (data_page_at i)) b (λ e. w.if-erase-block-block.false (at ∙ e))),
+        ap noted w.self-is ∙ inv.1 ∙ dropped_beside b i v inside (ne_eqb (block_of (data_page_at i)) b (λ e. w.if-erase_block-block.false (at ∙ e))),
       )
     ]
 

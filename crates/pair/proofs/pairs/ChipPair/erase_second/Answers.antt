@@ -1,8 +1,8 @@
 -- A call that the second half answers is one of the pair.
 use Rattle.pair.specs.Halves.{keeps_power}
-use Rattle.pair.specs.Pairs.{pair-meaning}
-use Rattle.pair.proofs.Halfwise.{erase-in-second}
-use Rattle.pair.proofs.Reporting.{means-now, sound-now}
+use Rattle.pair.specs.Pairs.{pair_meaning}
+use Rattle.pair.proofs.Halfwise.{erase_in_second}
+use Rattle.pair.proofs.Reporting.{means_now, sound_now}
 use Rattle.pair.proofs.pairs.ChipPair.erase_second.Goals as goal
 
 pub returns : goal.returns
@@ -12,10 +12,10 @@ returns g c =
     let mQ = g.Q.Chip.meaning in
     let x = c.report.new.self in
     let r = c.erase_answer.result in
-    let now = means-now mP mQ x s.first c.erase_answer.new.self (keeps_power r) c.report.ensures.power in
-    let t = erase-in-second s.on (mP s.first) (mQ s.second) (mQ c.erase_answer.new.self) c.args.block.0 c.args.own.0 c.requires.sound.0 c.requires.power c.requires.lies r
-    c.report.result (pair-meaning mP mQ x) c.report.ensures.answer now c.erase_answer.ensures.rules in
+    let now = means_now mP mQ x s.first c.erase_answer.new.self (keeps_power r) c.report.ensures.power in
+    let t = erase_in_second s.on (mP s.first) (mQ s.second) (mQ c.erase_answer.new.self) c.args.block.0 c.args.own.0 c.requires.sound.0 c.requires.power c.requires.lies r
+    c.report.result (pair_meaning mP mQ x) c.report.ensures.answer now c.erase_answer.ensures.rules in
     record {
-      sound = sound-now mP mQ x s.first c.erase_answer.new.self (keeps_power r) c.report.ensures.power g.P.Chip.sound g.Q.Chip.sound t.0 c.requires.sound.1 c.erase_answer.ensures.sound;
+      sound = sound_now mP mQ x s.first c.erase_answer.new.self (keeps_power r) c.report.ensures.power g.P.Chip.sound g.Q.Chip.sound t.0 c.requires.sound.1 c.erase_answer.ensures.sound;
       rules = t.1;
     }

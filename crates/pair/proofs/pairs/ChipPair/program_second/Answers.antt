@@ -1,8 +1,8 @@
 -- A call that the second half answers is one of the pair.
 use Rattle.pair.specs.Halves.{keeps_power}
-use Rattle.pair.specs.Pairs.{pair-meaning}
-use Rattle.pair.proofs.Halfwise.{program-second}
-use Rattle.pair.proofs.Reporting.{means-now, sound-now}
+use Rattle.pair.specs.Pairs.{pair_meaning}
+use Rattle.pair.proofs.Halfwise.{program_second}
+use Rattle.pair.proofs.Reporting.{means_now, sound_now}
 use Rattle.pair.proofs.pairs.ChipPair.program_second.Goals as goal
 
 pub returns : goal.returns
@@ -12,10 +12,10 @@ returns g c =
     let mQ = g.Q.Chip.meaning in
     let x = c.report.new.self in
     let r = c.program-answer.result in
-    let now = means-now mP mQ x s.first c.program-answer.new.self (keeps_power r) c.report.ensures.power in
-    let t = program-second s.on (mP s.first) (mQ s.second) (mQ c.program-answer.new.self) c.args.page.0 c.args.own.0 c.requires.sound.0 c.requires.power c.args.note c.args.bytes.now c.requires.lies r
-    c.report.result (pair-meaning mP mQ x) c.report.ensures.answer now c.program-answer.ensures.rules in
+    let now = means_now mP mQ x s.first c.program-answer.new.self (keeps_power r) c.report.ensures.power in
+    let t = program_second s.on (mP s.first) (mQ s.second) (mQ c.program-answer.new.self) c.args.page.0 c.args.own.0 c.requires.sound.0 c.requires.power c.args.note c.args.bytes.now c.requires.lies r
+    c.report.result (pair_meaning mP mQ x) c.report.ensures.answer now c.program-answer.ensures.rules in
     record {
-      sound = sound-now mP mQ x s.first c.program-answer.new.self (keeps_power r) c.report.ensures.power g.P.Chip.sound g.Q.Chip.sound t.0 c.requires.sound.1 c.program-answer.ensures.sound;
+      sound = sound_now mP mQ x s.first c.program-answer.new.self (keeps_power r) c.report.ensures.power g.P.Chip.sound g.Q.Chip.sound t.0 c.requires.sound.1 c.program-answer.ensures.sound;
       rules = t.1;
     }

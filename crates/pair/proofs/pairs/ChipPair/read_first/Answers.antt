@@ -1,8 +1,8 @@
 -- A call that the first half answers is one of the pair.
 use Rattle.pair.specs.Halves.{keeps_power}
-use Rattle.pair.specs.Pairs.{pair-meaning}
+use Rattle.pair.specs.Pairs.{pair_meaning}
 use Rattle.pair.proofs.Halfwise.{read_first}
-use Rattle.pair.proofs.Reporting.{means-now, sound-now}
+use Rattle.pair.proofs.Reporting.{means_now, sound_now}
 use Rattle.pair.proofs.pairs.ChipPair.read_first.Goals as goal
 
 pub returns : goal.returns
@@ -12,10 +12,10 @@ returns g c =
     let mQ = g.Q.Chip.meaning in
     let x = c.report.new.self in
     let r = c.read-answer.result in
-    let now = means-now mP mQ x c.read-answer.new.self s.second (keeps_power r) c.report.ensures.power in
+    let now = means_now mP mQ x c.read-answer.new.self s.second (keeps_power r) c.report.ensures.power in
     let t = read_first s.on (mP s.first) (mQ s.second) (mP c.read-answer.new.self) c.args.page.0 c.requires.sound.0 c.requires.power c.args.buf.now c.read-answer.new.buf c.requires.lies r
-    c.report.result (pair-meaning mP mQ x) c.report.ensures.answer now c.read-answer.ensures.rules in
+    c.report.result (pair_meaning mP mQ x) c.report.ensures.answer now c.read-answer.ensures.rules in
     record {
-      sound = sound-now mP mQ x c.read-answer.new.self s.second (keeps_power r) c.report.ensures.power g.P.Chip.sound g.Q.Chip.sound t.0 c.read-answer.ensures.sound c.requires.sound.2;
+      sound = sound_now mP mQ x c.read-answer.new.self s.second (keeps_power r) c.report.ensures.power g.P.Chip.sound g.Q.Chip.sound t.0 c.read-answer.ensures.sound c.requires.sound.2;
       rules = t.1;
     }

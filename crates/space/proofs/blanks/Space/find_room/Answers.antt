@@ -2,7 +2,7 @@ use Rattle.std.proofs.Common.{Some, refl}
 use Rattle.std.proofs.lemmas.Result.{err_from_is_err_and}
 use Rattle.table.specs.Views.{table_of}
 use Rattle.journal.specs.Notes.{noted, pages_of}
-use Rattle.space.proofs.Rooming.{room_there, victim_is, room-fails, room-made}
+use Rattle.space.proofs.Rooming.{room_there, victim_is, room_fails, room_made}
 use Rattle.space.proofs.blanks.Space.find_room.Goals as goal
 
 pub returns-in-err-reclaim : goal.returns-in-err-reclaim
@@ -16,7 +16,7 @@ returns-in-err-reclaim g c =
     record {
       sound = h.sound;
       size = h.size;
-      finds = rw (p.1, p.2) (room-fails j.geometry.blocks b m (noted j) c.args.self.now c.requires.keeps c.in-None.ensures victim c.in-err-reclaim.field-0.0 (g.C.Chip.meaning c.reclaim.new.chip) (noted c.reclaim.new.journal) c.reclaim.new.self h.reclaims);
+      finds = rw (p.1, p.2) (room_fails j.geometry.blocks b m (noted j) c.args.self.now c.requires.keeps c.in-None.ensures victim c.in-err-reclaim.field-0.0 (g.C.Chip.meaning c.reclaim.new.chip) (noted c.reclaim.new.journal) c.reclaim.new.self h.reclaims);
     }
 
 pub returns-in-Some : goal.returns-in-Some
@@ -39,5 +39,5 @@ returns-in-ok-reclaim g c =
     record {
       sound = h.sound;
       size = h.size;
-      finds = room-made j.geometry.blocks b m (noted j) c.args.self.now c.requires.keeps c.in-None.ensures victim (g.C.Chip.meaning c.reclaim.new.chip) (noted c.reclaim.new.journal) c.reclaim.new.self h.reclaims c.first-in-Some-victim.result c.first-in-Some-victim.ensures;
+      finds = room_made j.geometry.blocks b m (noted j) c.args.self.now c.requires.keeps c.in-None.ensures victim (g.C.Chip.meaning c.reclaim.new.chip) (noted c.reclaim.new.journal) c.reclaim.new.self h.reclaims c.first-in-Some-victim.result c.first-in-Some-victim.ensures;
     }

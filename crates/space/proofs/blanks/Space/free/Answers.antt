@@ -14,24 +14,24 @@ loop-i-preserved c =
     let b = c.args.block.0 in
     let i = c.loop-i.i in
     let sp = c.loop-i.self in
-    let next = c.if-erase-block-block.self in
+    let next = c.if-erase_block-block.self in
     let f : ℕ → Bool = λ k. get_or (flags sp) k false in
     let g : ℕ → Bool = λ k. get_or (flags next) k false in
     let inv = c.loop-i.invariant in
-    let at : c.erase-block.result.0 ≡ block_of (data_page_at i) = c.erase-block.ensures ∙ ap block_of c.chip-page.ensures in
+    let at : c.erase_block.result.0 ≡ block_of (data_page_at i) = c.erase_block.ensures ∙ ap block_of c.chip_page.ensures in
     let inside : i < sp.pages = omega (arith, inv.0) in
-    elim c.if-erase-block-block.branch [
+    elim c.if-erase_block-block.branch [
       | then-erase-block-block w ↦ (
         ap (λ z. z.pages) w.self-is ∙ inv.0,
         ap (λ z. z.cursor) w.self-is ∙ inv.1,
-        freed_more b _ i _ f g inv.2 (freed_here b i f g (eq-eqb _ b (sym at ∙ w.if-erase-block-block.true))
+        freed_more b _ i _ f g inv.2 (freed_here b i f g (eq-eqb _ b (sym at ∙ w.if-erase_block-block.true))
             (λ k. ap (λ z. get_or (flags z) k false) w.self-is ∙ flag_set sp.blank sp.pages i true (omega arith) inside k)),
       )
       | else-erase-block-block w ↦ (
         ap (λ z. z.pages) w.self-is ∙ inv.0,
         ap (λ z. z.cursor) w.self-is ∙ inv.1,
         freed_more b _ i _ f g inv.2 (λ k. ap (λ z. get_or (flags z) k false) w.self-is
-            ∙ freed_elsewhere b i f (ne_eqb _ b (λ e. w.if-erase-block-block.false (at ∙ e))) k),
+            ∙ freed_elsewhere b i f (ne_eqb _ b (λ e. w.if-erase_block-block.false (at ∙ e))) k),
       )
     ]
 

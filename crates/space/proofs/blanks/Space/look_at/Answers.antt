@@ -10,7 +10,7 @@ returns g c =
     let m = g.C.Chip.meaning c.args.chip.now in
     let sp = c.args.self.now in
     let p = c.args.page.0 in
-    let told : c.is_blank.result ≡ blank_page (shown m) p = c.is_blank.ensures (shown m c.chip-page.result.0) c.look.new.buf h.saw.1 ∙ ap (λ q. is_blank (shown m q)) c.chip-page.ensures in
+    let told : c.is_blank.result ≡ blank_page (shown m) p = c.is_blank.ensures (shown m c.chip_page.result.0) c.look.new.buf h.saw.1 ∙ ap (λ q. is_blank (shown m q)) c.chip_page.ensures in
     record {
       sound = h.sound;
       quiet = h.quiet;

@@ -1,6 +1,6 @@
 use Rattle.std.proofs.lemmas.Result.{err_from_is_err_and}
 use Rattle.journal.specs.Notes.{noted, pages_of}
-use Rattle.space.proofs.Placing.{places-lost, places-made}
+use Rattle.space.proofs.Placing.{places_lost, places_made}
 use Rattle.space.proofs.blanks.Space.place.Goals as goal
 
 pub returns-in-err-program : goal.returns-in-err-program
@@ -12,8 +12,8 @@ returns-in-err-program g c =
     let (t, kept) = c.requires.keeps in
     record {
       sound = h.sound;
-      places = rw (p.1, p.2) (places-lost (pages_of c.args.journal.now) c.args.page.0 c.args.address.0 c.chip-page.result.0 c.note-of-data.result
-          c.args.bytes.now m m' (noted c.args.journal.now) c.args.self.now c.chip-page.ensures c.note-of-data.ensures c.requires.inside c.requires.free
+      places = rw (p.1, p.2) (places_lost (pages_of c.args.journal.now) c.args.page.0 c.args.address.0 c.chip_page.result.0 c.note_of_data.result
+          c.args.bytes.now m m' (noted c.args.journal.now) c.args.self.now c.chip_page.ensures c.note_of_data.ensures c.requires.inside c.requires.free
           _ t kept c.requires.whole h.rules c.args.self.now);
     }
 
@@ -25,7 +25,7 @@ returns g c =
     let (t, kept) = c.requires.keeps in
     record {
       sound = h.sound;
-      places = places-made (pages_of c.args.journal.now) c.args.page.0 c.args.address.0 c.chip-page.result.0 c.note-of-data.result
-          c.args.bytes.now m m' (noted c.args.journal.now) c.args.self.now c.chip-page.ensures c.note-of-data.ensures c.requires.inside c.requires.free
+      places = places_made (pages_of c.args.journal.now) c.args.page.0 c.args.address.0 c.chip_page.result.0 c.note_of_data.result
+          c.args.bytes.now m m' (noted c.args.journal.now) c.args.self.now c.chip_page.ensures c.note_of_data.ensures c.requires.inside c.requires.free
           t kept h.rules c.take.new.self c.take.ensures.long c.take.ensures.each c.take.ensures.past;
     }

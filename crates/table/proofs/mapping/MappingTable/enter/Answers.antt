@@ -11,16 +11,16 @@ use Rattle.table.proofs.mapping.MappingTable.enter.Goals as goal
 pub invariant-of-self : goal.invariant-of-self
 invariant-of-self c =
     let s = c.args.self.now in
-    let u = c.empty-address.new.self in
+    let u = c.empty_address.new.self in
     let p = c.args.page.0 in
     let m = c.args.mark in
     let a = c.args.address.0 in
     let small : a < 4294967296 = search rules in
-    let q = enterable (table_of s) p m (sym c.if-not-may-enter.ensures) in (
+    let q = enterable (table_of s) p m (sym c.if-not-may_enter.ensures) in (
       length-set u.entries p (entry m a) ∙ u.whole,
       (
         u.within,
-        kept u.pages _ (entered (table_of s) p m a) (entered_there s u p m a c.empty-address.ensures.after q.1)
+        kept u.pages _ (entered (table_of s) p m a) (entered_there s u p m a c.empty_address.ensures.after q.1)
             (entered_proper (table_of s) (table_proper s) p m a q.1 q.0 small),
       ),
     )
@@ -28,10 +28,10 @@ invariant-of-self c =
 pub returns : goal.returns
 returns c =
     let s = c.args.self.now in
-    let u = c.empty-address.new.self in
+    let u = c.empty_address.new.self in
     let p = c.args.page.0 in
     let m = c.args.mark in
     let a = c.args.address.0 in
-    let may : may_enter (table_of s) p m ≡ true = sym {a = true} {b = may_enter (table_of s) p m} c.if-not-may-enter.ensures in
+    let may : may_enter (table_of s) p m ≡ true = sym {a = true} {b = may_enter (table_of s) p m} c.if-not-may_enter.ensures in
     cond-true (may_enter (table_of s) p m) (Some (entered (table_of s) p m a)) None may
-    ∙ ap Some (sym (entered_there s u p m a c.empty-address.ensures.after (enterable (table_of s) p m may).1))
+    ∙ ap Some (sym (entered_there s u p m a c.empty_address.ensures.after (enterable (table_of s) p m may).1))

@@ -6,4 +6,4 @@ use Rattle.table.proofs.mapping.MappingTable.find.Goals as goal
 pub returns : goal.returns
 returns c =
     let a = c.args.address.0 in
-    subst (λ t. held t a ≡ false) c.as-slice-entries.ensures (unheld_from c.as-slice-entries.result.now a (λ k h. c.loop-i.invariant k (omega arith)))
+    subst (λ t. held t a ≡ false) c.as_slice-entries.ensures (unheld_from c.as_slice-entries.result.now a (λ k h. c.loop-i.invariant k (omega arith)))

@@ -7,13 +7,13 @@ use Rattle.table.proofs.mapping.MappingTable.follow.Goals as goal
 pub returns-in-Drop : goal.returns-in-Drop
 returns-in-Drop c =
     let t = table_of c.args.self.now in
-    let u = table_of c.empty-address.new.self in
-    subst (λ r. Turns t (apply t r) c.empty-address.result u) (sym c.in-Drop.is)
-    (turns_drop t u c.in-Drop.address.0 c.empty-address.result c.empty-address.ensures.was c.empty-address.ensures.after)
+    let u = table_of c.empty_address.new.self in
+    subst (λ r. Turns t (apply t r) c.empty_address.result u) (sym c.in-Drop.is)
+    (turns_drop t u c.in-Drop.address.0 c.empty_address.result c.empty_address.ensures.was c.empty_address.ensures.after)
 
 pub returns-in-MarkClean : goal.returns-in-MarkClean
 returns-in-MarkClean c =
     let t = table_of c.args.self.now in
-    let u = table_of c.mark-clean.new.self in
-    subst (λ r. Turns t (apply t r) c.mark-clean.result u) (sym c.in-MarkClean.is)
-    (turns_clean t u c.in-MarkClean.address.0 c.mark-clean.result c.mark-clean.ensures.was c.mark-clean.ensures.after)
+    let u = table_of c.mark_clean.new.self in
+    subst (λ r. Turns t (apply t r) c.mark_clean.result u) (sym c.in-MarkClean.is)
+    (turns_clean t u c.in-MarkClean.address.0 c.mark_clean.result c.mark_clean.ensures.was c.mark_clean.ensures.after)

@@ -3,8 +3,8 @@ use Rattle.std.proofs.lemmas.List.{length-set}
 use Rattle.table.specs.Tables.{held}
 use Rattle.table.specs.Views.{table_of, remarked}
 use Rattle.table.proofs.Tablewise.{kept}
-use Rattle.table.proofs.Changing.{alone_held, remarked-none, remarked-proper}
-use Rattle.table.proofs.Keeping.{table_proper, remarked-there}
+use Rattle.table.proofs.Changing.{alone_held, remarked_none, remarked_proper}
+use Rattle.table.proofs.Keeping.{table_proper, remarked_there}
 use Rattle.table.proofs.mapping.MappingTable.remark.Goals as goal
 
 pub invariant-of-self : goal.invariant-of-self
@@ -15,7 +15,7 @@ invariant-of-self c =
     let e = c.entry_with.result in
     let m = c.args.mark in (
       length-set s.entries p e ∙ s.whole,
-      (s.within, kept s.pages _ (remarked (table_of s) m a) (remarked-there s a p c.in-Some.ensures m e c.entry_with.ensures) (remarked-proper (table_of s) (table_proper s) m a)),
+      (s.within, kept s.pages _ (remarked (table_of s) m a) (remarked_there s a p c.in-Some.ensures m e c.entry_with.ensures) (remarked_proper (table_of s) (table_proper s) m a)),
     )
 
 pub returns-in-Some : goal.returns-in-Some
@@ -25,7 +25,7 @@ returns-in-Some c =
     let p = c.in-Some.page.0 in
     record {
       was = sym (alone_held (table_of s) a p c.in-Some.ensures);
-      after = remarked-there s a p c.in-Some.ensures c.args.mark c.entry_with.result c.entry_with.ensures;
+      after = remarked_there s a p c.in-Some.ensures c.args.mark c.entry_with.result c.entry_with.ensures;
     }
 
 pub returns-in-None : goal.returns-in-None
@@ -33,4 +33,4 @@ returns-in-None c =
     let t = table_of c.args.self.now in
     let a = c.args.address.0 in
     let unheld : held t a ≡ false = c.in-None.ensures in
-    record { was = sym unheld; after = sym (remarked-none t a unheld c.args.mark) }
+    record { was = sym unheld; after = sym (remarked_none t a unheld c.args.mark) }
