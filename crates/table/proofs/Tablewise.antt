@@ -117,8 +117,8 @@ distinct_from t p i j h =
     p.distinct i j (entry_at t i).address.0 (holds_from (entry_at t i).address.0 (entry_at t i) q.0 refl) q.1
 
 -- a part of an array that is a proper table keeps what its type asks
-pub kept : (n : ℕ) (xs : List Entry) (u : Table) → take n xs ≡ u → ProperTable u → AllFit (take n xs) × (AllDistinct (take n xs) × Unit {0})
-kept n xs u e p = (subst AllFit (sym e) (fit_from u p), (subst AllDistinct (sym e) (distinct_from u p), tt))
+pub kept : (n : ℕ) (xs : List Entry) (u : Table) → take n xs ≡ u → ProperTable u → AllFit (take n xs) × AllDistinct (take n xs)
+kept n xs u e p = (subst AllFit (sym e) (fit_from u p), subst AllDistinct (sym e) (distinct_from u p))
 
 -- an entry past the part
 pub past_part : (n : ℕ) (xs : List Entry) (i : ℕ) → n ≤ length xs → n ≤ i → entry_at (take n xs) i ≡ empty

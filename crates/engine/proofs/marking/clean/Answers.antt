@@ -12,7 +12,7 @@ stage_for_later-requires g c =
     let v₁ = noted c.make_roomy.new.journal in
     let D = pages_of c.args.journal.now in
     let a = c.args.address in
-    let made = c.in-ok-make_roomy.ensures.roomy in
+    let made = c.in_ok-make_roomy.ensures.roomy in
     let there = dirty_held v.table a.0 c.requires.dirty in
     record {
       room = room_made D m v c.args.space.now m₁ v₁ made c.requires.holding.0 c.requires.holding.1;
@@ -27,7 +27,7 @@ returns g c =
     let v₁ = noted c.make_roomy.new.journal in
     let D = pages_of c.args.journal.now in
     let a = c.args.address in
-    let roomy = c.in-ok-make_roomy.ensures in
+    let roomy = c.in_ok-make_roomy.ensures in
     let there = dirty_held v.table a.0 c.requires.dirty in
     let held₁ = still_held D m v c.args.space.now m₁ v₁ roomy.roomy a.0 there in
     record {

@@ -6,12 +6,12 @@ use Rattle.journal.specs.Notes.{noted, pages_of}
 use Rattle.engine.proofs.Remarking.{still_held, room_made, drop_made, drop_owed, evicts_by, not_evicted}
 use Rattle.engine.proofs.marking.evict.Goals as goal
 
-pub returns-in-err-make_roomy : goal.returns-in-err-make_roomy
-returns-in-err-make_roomy g c =
+pub returns-in_err-make_roomy : goal.returns-in_err-make_roomy
+returns-in_err-make_roomy g c =
     let m = g.C.Chip.meaning c.args.chip.now in
     let m₁ = g.C.Chip.meaning c.make_roomy.new.chip in
-    let roomy = c.in-err-make_roomy.ensures in
-    let p = err_from_is_err_and c.from-residual.result c.from-residual.ensures.1 in
+    let roomy = c.in_err-make_roomy.ensures in
+    let p = err_from_is_err_and c.from_residual.result c.from_residual.ensures.1 in
     record {
       sound = roomy.sound;
       size = roomy.size;
@@ -26,7 +26,7 @@ stage-owed-requires g c =
     let v₁ = noted c.make_roomy.new.journal in
     let D = pages_of c.args.journal.now in
     let a = c.args.address in
-    let made = c.in-ok-make_roomy.ensures.roomy in
+    let made = c.in_ok-make_roomy.ensures.roomy in
     record {
       room = room_made D m v c.args.space.now m₁ v₁ made c.requires.holding.0 c.requires.holding.1;
       fits = (without v₁.table a.0, drop_made v₁.table a (still_held D m v c.args.space.now m₁ v₁ made a.0 c.requires.held));
@@ -40,7 +40,7 @@ commit_owed-requires g c =
     let v₁ = noted c.make_roomy.new.journal in
     let D = pages_of c.args.journal.now in
     let a = c.args.address in
-    let roomy = c.in-ok-make_roomy.ensures in
+    let roomy = c.in_ok-make_roomy.ensures in
     let held₁ = still_held D m v c.args.space.now m₁ v₁ roomy.roomy a.0 c.requires.held in
     record {
       sound = roomy.sound;
@@ -56,7 +56,7 @@ returns g c =
     let v₁ = noted c.make_roomy.new.journal in
     let D = pages_of c.args.journal.now in
     let a = c.args.address in
-    let roomy = c.in-ok-make_roomy.ensures in
+    let roomy = c.in_ok-make_roomy.ensures in
     let held₁ = still_held D m v c.args.space.now m₁ v₁ roomy.roomy a.0 c.requires.held in
     let commit = c.commit_owed.ensures in
     let size = c.stage-owed.ensures.size ∙ roomy.size in

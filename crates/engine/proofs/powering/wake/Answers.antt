@@ -4,30 +4,30 @@ use Rattle.recovery.proofs.Lookwise.{quiet_then}
 use Rattle.engine.proofs.Waking.{recovery_dark, looked_lost, awake}
 use Rattle.engine.proofs.powering.wake.Goals as goal
 
-pub returns-in-err-found : goal.returns-in-err-found
-returns-in-err-found g c =
+pub returns-in_err-found : goal.returns-in_err-found
+returns-in_err-found g c =
     let m = g.C.Chip.meaning c.args.chip.now in
     let m₁ = g.C.Chip.meaning c.power_on.new.self in
     let m₂ = g.C.Chip.meaning c.recover.new.chip in
     let geometry = c.args.geometry in
-    let on = c.in-ok-power_on.ensures in
-    let found = c.in-err-found.ensures in
-    let p = err_from_is_err_and c.from-residual-in-err-found.result c.from-residual-in-err-found.ensures.1 in
+    let on = c.in_ok-power_on.ensures in
+    let found = c.in_err-found.ensures in
+    let p = err_from_is_err_and c.from_residual-in_err-found.result c.from_residual-in_err-found.ensures.1 in
     record {
       sound = found.sound;
       wakes = rw (p.1, p.2) (recovery_dark m m₁ m₂ on.rules found.quiet geometry.blocks _ c.requires.fits geometry.enough geometry.few found.found);
     }
 
-pub returns-in-err-space : goal.returns-in-err-space
-returns-in-err-space g c =
+pub returns-in_err-space : goal.returns-in_err-space
+returns-in_err-space g c =
     let m = g.C.Chip.meaning c.args.chip.now in
     let m₁ = g.C.Chip.meaning c.power_on.new.self in
     let m₂ = g.C.Chip.meaning c.recover.new.chip in
     let m₃ = g.C.Chip.meaning c.scan.new.chip in
-    let on = c.in-ok-power_on.ensures in
-    let found = c.in-ok-found.ensures in
-    let seen = c.in-err-space.ensures in
-    let p = err_from_is_err_and c.from-residual-in-err-space.result c.from-residual-in-err-space.ensures.1 in
+    let on = c.in_ok-power_on.ensures in
+    let found = c.in_ok-found.ensures in
+    let seen = c.in_err-space.ensures in
+    let p = err_from_is_err_and c.from_residual-in_err-space.result c.from_residual-in_err-space.ensures.1 in
     record {
       sound = seen.sound;
       wakes = rw (p.1, p.2) (looked_lost m m₁ m₃ on.rules (quiet_then m₁ m₂ m₃ found.quiet seen.quiet) (data_pages c.args.geometry.blocks) _ seen.found);
@@ -40,14 +40,14 @@ returns g c =
     let m₂ = g.C.Chip.meaning c.recover.new.chip in
     let m₃ = g.C.Chip.meaning c.scan.new.chip in
     let geometry = c.args.geometry in
-    let on = c.in-ok-power_on.ensures in
-    let found = c.in-ok-found.ensures in
-    let seen = c.in-ok-space.ensures in
+    let on = c.in_ok-power_on.ensures in
+    let found = c.in_ok-found.ensures in
+    let seen = c.in_ok-space.ensures in
     record {
       sound = seen.sound;
       wakes = (
         c.recovered.ensures.size,
-        awake geometry.blocks m m₁ m₂ m₃ c.requires.fits geometry.enough geometry.few on.rules found.quiet seen.quiet c.in-ok-found.found c.recovered.result
-            c.in-ok-space.space found.found seen.found.0 seen.found.1.0 seen.found.1.1 c.recovered.ensures.noted,
+        awake geometry.blocks m m₁ m₂ m₃ c.requires.fits geometry.enough geometry.few on.rules found.quiet seen.quiet c.in_ok-found.found c.recovered.result
+            c.in_ok-space.space found.found seen.found.0 seen.found.1.0 seen.found.1.1 c.recovered.ensures.noted,
       );
     }

@@ -8,9 +8,9 @@ use Rattle.engine.specs.Works.{Holding, MakesRoomy, Enters}
 use Rattle.engine.proofs.Written.{room_holding, placed_holding, write_room, write_unmarked, write_data, write_unfound, write_unplaced, write_crowded, write_ends}
 use Rattle.engine.proofs.writing.write.Goals as goal
 
-pub returns-in-err-page : goal.returns-in-err-page
-returns-in-err-page g c =
-    let p = err_from_is_err_and c.from-residual.result c.from-residual.ensures.1 in
+pub returns-in_err-page : goal.returns-in_err-page
+returns-in_err-page g c =
+    let p = err_from_is_err_and c.from_residual.result c.from_residual.ensures.1 in
     let j = c.args.journal.now in
     let m = g.C.Chip.meaning c.args.chip.now in
     let m₁ = g.C.Chip.meaning c.find_room.new.chip in
@@ -20,12 +20,12 @@ returns-in-err-page g c =
       sound = c.find_room.ensures.sound;
       size = c.find_room.ensures.size;
       writes = rw (p.1, p.2) (write_unfound (pages_of j) j.geometry.blocks c.args.dirty c.args.address.0 c.args.bytes.now m (noted j) c.args.space.now
-          c.in-err-page.field-0.0 m₁ v₁ sp₁ c.in-err-page.ensures.finds);
+          c.in_err-page.field-0.0 m₁ v₁ sp₁ c.in_err-page.ensures.finds);
     }
 
-pub returns-in-err-place : goal.returns-in-err-place
-returns-in-err-place g c =
-    let p = err_from_is_err_and c.from-residual-in-err-place.result c.from-residual-in-err-place.ensures.1 in
+pub returns-in_err-place : goal.returns-in_err-place
+returns-in_err-place g c =
+    let p = err_from_is_err_and c.from_residual-in_err-place.result c.from_residual-in_err-place.ensures.1 in
     let j = c.args.journal.now in
     let D = pages_of j in
     let m = g.C.Chip.meaning c.args.chip.now in
@@ -35,16 +35,16 @@ returns-in-err-place g c =
     let i = c.in-Some.page in
     let a = c.args.address.0 in
     let bytes = c.args.bytes.now in
-    let f = c.in-err-place.field-0.0 in
+    let f = c.in_err-place.field-0.0 in
     let m₂ = g.C.Chip.meaning c.place.new.chip in
     let sp₂ = c.place.new.self in
     let size : pages_of c.find_room.new.journal ≡ D = ap (λ z. data_pages z.blocks) c.find_room.ensures.size in
-    let found = subst (λ o. FindsRoom D j.geometry.blocks m (noted j) c.args.space.now (Ok o) m₁ v₁ sp₁) c.in-Some.is c.in-ok-page.ensures.finds in
+    let found = subst (λ o. FindsRoom D j.geometry.blocks m (noted j) c.args.space.now (Ok o) m₁ v₁ sp₁) c.in-Some.is c.in_ok-page.ensures.finds in
     record {
       sound = c.place.ensures.sound;
       size = c.find_room.ensures.size;
       writes = rw (p.1, p.2) (write_unplaced D j.geometry.blocks m (noted j) c.args.space.now i m₁ v₁ sp₁ found c.args.dirty a bytes f m₂ sp₂
-          (subst (λ d. Places d i.0 a bytes m₁ v₁ sp₁ (Err f) m₂ sp₂) size c.in-err-place.ensures.places));
+          (subst (λ d. Places d i.0 a bytes m₁ v₁ sp₁ (Err f) m₂ sp₂) size c.in_err-place.ensures.places));
     }
 
 pub make_roomy-requires : goal.make_roomy-requires
@@ -64,17 +64,17 @@ make_roomy-requires g c =
     let m₂ = g.C.Chip.meaning c.place.new.chip in
     let sp₂ = c.place.new.self in
     let size : pages_of c.find_room.new.journal ≡ D = ap (λ z. data_pages z.blocks) c.find_room.ensures.size in
-    let found = subst (λ o. FindsRoom D blocks m v sp (Ok o) m₁ v₁ sp₁) c.in-Some.is c.in-ok-page.ensures.finds in
-    let laid = subst (λ d. Placed d i.0 a bytes m₁ v₁ sp₁ m₂ sp₂) size c.in-ok-place.ensures.places in
+    let found = subst (λ o. FindsRoom D blocks m v sp (Ok o) m₁ v₁ sp₁) c.in-Some.is c.in_ok-page.ensures.finds in
+    let laid = subst (λ d. Placed d i.0 a bytes m₁ v₁ sp₁ m₂ sp₂) size c.in_ok-place.ensures.places in
     let (u, k, _) = room_holding D blocks m v sp i m₁ v₁ sp₁ found c.requires.holding.0 c.requires.holding.1 in
     record {
       sound = c.place.ensures.sound;
       holding = (u, subst (λ d. Holding d m₂ v₁ sp₂ u) (sym size) (placed_holding D blocks m v sp i m₁ v₁ sp₁ found c.args.dirty a bytes m₂ sp₂ laid u k));
     }
 
-pub returns-in-err-make_roomy : goal.returns-in-err-make_roomy
-returns-in-err-make_roomy g c =
-    let p = err_from_is_err_and c.from-residual-in-err-make_roomy.result c.from-residual-in-err-make_roomy.ensures.1 in
+pub returns-in_err-make_roomy : goal.returns-in_err-make_roomy
+returns-in_err-make_roomy g c =
+    let p = err_from_is_err_and c.from_residual-in_err-make_roomy.result c.from_residual-in_err-make_roomy.ensures.1 in
     let j = c.args.journal.now in
     let D = pages_of j in
     let blocks = j.geometry.blocks in
@@ -90,16 +90,16 @@ returns-in-err-make_roomy g c =
     let m₂ = g.C.Chip.meaning c.place.new.chip in
     let sp₂ = c.place.new.self in
     let size : pages_of c.find_room.new.journal ≡ D = ap (λ z. data_pages z.blocks) c.find_room.ensures.size in
-    let found = subst (λ o. FindsRoom D blocks m v sp (Ok o) m₁ v₁ sp₁) c.in-Some.is c.in-ok-page.ensures.finds in
-    let laid = subst (λ d. Placed d i.0 a bytes m₁ v₁ sp₁ m₂ sp₂) size c.in-ok-place.ensures.places in
-    let f = c.in-err-make_roomy.field-0.0 in
+    let found = subst (λ o. FindsRoom D blocks m v sp (Ok o) m₁ v₁ sp₁) c.in-Some.is c.in_ok-page.ensures.finds in
+    let laid = subst (λ d. Placed d i.0 a bytes m₁ v₁ sp₁ m₂ sp₂) size c.in_ok-place.ensures.places in
+    let f = c.in_err-make_roomy.field-0.0 in
     let m₃ = g.C.Chip.meaning c.make_roomy.new.chip in
     let v₃ = noted c.make_roomy.new.journal in
     record {
       sound = c.make_roomy.ensures.sound;
       size = c.make_roomy.ensures.size ∙ c.find_room.ensures.size;
       writes = rw (p.1, p.2) (write_crowded D blocks m v sp i m₁ v₁ sp₁ found c.args.dirty a bytes m₂ sp₂ laid f m₃ v₃
-          (subst (λ d. MakesRoomy d m₂ v₁ sp₂ (Err f) m₃ v₃) size c.in-err-make_roomy.ensures.roomy));
+          (subst (λ d. MakesRoomy d m₂ v₁ sp₂ (Err f) m₃ v₃) size c.in_err-make_roomy.ensures.roomy));
     }
 
 pub enter-requires : goal.enter-requires
@@ -119,12 +119,12 @@ enter-requires g c =
     let m₂ = g.C.Chip.meaning c.place.new.chip in
     let sp₂ = c.place.new.self in
     let size : pages_of c.find_room.new.journal ≡ D = ap (λ z. data_pages z.blocks) c.find_room.ensures.size in
-    let found = subst (λ o. FindsRoom D blocks m v sp (Ok o) m₁ v₁ sp₁) c.in-Some.is c.in-ok-page.ensures.finds in
-    let laid = subst (λ d. Placed d i.0 a bytes m₁ v₁ sp₁ m₂ sp₂) size c.in-ok-place.ensures.places in
+    let found = subst (λ o. FindsRoom D blocks m v sp (Ok o) m₁ v₁ sp₁) c.in-Some.is c.in_ok-page.ensures.finds in
+    let laid = subst (λ d. Placed d i.0 a bytes m₁ v₁ sp₁ m₂ sp₂) size c.in_ok-place.ensures.places in
     let m₃ = g.C.Chip.meaning c.make_roomy.new.chip in
     let v₃ = noted c.make_roomy.new.journal in
     let size₃ : pages_of c.make_roomy.new.journal ≡ D = ap (λ z. data_pages z.blocks) c.make_roomy.ensures.size ∙ size in
-    let roomier = subst (λ d. MakesRoomy d m₂ v₁ sp₂ (Ok tt) m₃ v₃) size c.in-ok-make_roomy.ensures.roomy in
+    let roomier = subst (λ d. MakesRoomy d m₂ v₁ sp₂ (Ok tt) m₃ v₃) size c.in_ok-make_roomy.ensures.roomy in
     let (u, k, _) = room_holding D blocks m v sp i m₁ v₁ sp₁ found c.requires.holding.0 c.requires.holding.1 in
     let (u₂, k₂, _) = roomier.2 u (placed_holding D blocks m v sp i m₁ v₁ sp₁ found c.args.dirty a bytes m₂ sp₂ laid u k) in
     record {
@@ -136,8 +136,8 @@ enter-requires g c =
       «data» = write_data D blocks m v sp i m₁ v₁ sp₁ found c.args.dirty a bytes m₂ sp₂ laid m₃ v₃ roomier;
     }
 
-pub returns-in-ok-make_roomy : goal.returns-in-ok-make_roomy
-returns-in-ok-make_roomy g c =
+pub returns-in_ok-make_roomy : goal.returns-in_ok-make_roomy
+returns-in_ok-make_roomy g c =
     let j = c.args.journal.now in
     let D = pages_of j in
     let blocks = j.geometry.blocks in
@@ -153,12 +153,12 @@ returns-in-ok-make_roomy g c =
     let m₂ = g.C.Chip.meaning c.place.new.chip in
     let sp₂ = c.place.new.self in
     let size : pages_of c.find_room.new.journal ≡ D = ap (λ z. data_pages z.blocks) c.find_room.ensures.size in
-    let found = subst (λ o. FindsRoom D blocks m v sp (Ok o) m₁ v₁ sp₁) c.in-Some.is c.in-ok-page.ensures.finds in
-    let laid = subst (λ d. Placed d i.0 a bytes m₁ v₁ sp₁ m₂ sp₂) size c.in-ok-place.ensures.places in
+    let found = subst (λ o. FindsRoom D blocks m v sp (Ok o) m₁ v₁ sp₁) c.in-Some.is c.in_ok-page.ensures.finds in
+    let laid = subst (λ d. Placed d i.0 a bytes m₁ v₁ sp₁ m₂ sp₂) size c.in_ok-place.ensures.places in
     let m₃ = g.C.Chip.meaning c.make_roomy.new.chip in
     let v₃ = noted c.make_roomy.new.journal in
     let size₃ : pages_of c.make_roomy.new.journal ≡ D = ap (λ z. data_pages z.blocks) c.make_roomy.ensures.size ∙ size in
-    let roomier = subst (λ d. MakesRoomy d m₂ v₁ sp₂ (Ok tt) m₃ v₃) size c.in-ok-make_roomy.ensures.roomy in
+    let roomier = subst (λ d. MakesRoomy d m₂ v₁ sp₂ (Ok tt) m₃ v₃) size c.in_ok-make_roomy.ensures.roomy in
     let m₄ = g.C.Chip.meaning c.enter.new.chip in
     let v₄ = noted c.enter.new.journal in
     record {

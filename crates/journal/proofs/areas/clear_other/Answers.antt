@@ -12,13 +12,13 @@ loop-k-init g c = (c.requires.sound, λ active _. clearing_none active (g.C.Chip
 pub erase-requires : goal.erase-requires
 erase-requires g c = c.loop-k.invariant.0
 
-pub returns-in-err-erase : goal.returns-in-err-erase
-returns-in-err-erase g c =
+pub returns-in_err-erase : goal.returns-in_err-erase
+returns-in_err-erase g c =
     let m = g.C.Chip.meaning c.args.chip.now in
     let n = g.C.Chip.meaning c.loop-k.chip in
     let n' = g.C.Chip.meaning c.erase.new.self in
-    let h = c.in-err-erase.ensures in
-    let p = err_from_is_err_and c.from-residual.result c.from-residual.ensures.1 in
+    let h = c.in_err-erase.ensures in
+    let p = err_from_is_err_and c.from_residual.result c.from_residual.ensures.1 in
     let first = c.erase_block-first.ensures ∙ ap block_of (c.first.ensures ∙ ap first_page c.other.ensures) in
     let left = clearing_fails c.args.active m c.requires.settled c.loop-k.k n (c.loop-k.invariant.1 c.args.active first) c.loop-k-test.true c.requires.large _ (omega arith) n' _ h.rules in
     record { sound = h.sound; done = rw (p.1, p.2) left.done; others = left.others; held = left.held }
@@ -28,7 +28,7 @@ loop-k-preserved g c =
     let m = g.C.Chip.meaning c.args.chip.now in
     let n = g.C.Chip.meaning c.loop-k.chip in
     let n' = g.C.Chip.meaning c.erase.new.self in
-    let h = c.in-ok-erase.ensures in
+    let h = c.in_ok-erase.ensures in
     (h.sound, λ active e. clearing_more active m c.requires.settled c.loop-k.k n (c.loop-k.invariant.1 active e) c.loop-k-test.true c.requires.large _ (omega arith) n' h.rules)
 
 pub sync-requires : goal.sync-requires

@@ -6,12 +6,12 @@ use Rattle.layout.specs.Pages.{trailer_data}
 use Rattle.journal.proofs.Closing.{closing_fails, closing_ends}
 use Rattle.journal.proofs.areas.close_other.Goals as goal
 
-pub returns-in-err-program : goal.returns-in-err-program
-returns-in-err-program g c =
+pub returns-in_err-program : goal.returns-in_err-program
+returns-in_err-program g c =
     let m = g.C.Chip.meaning c.args.chip.now in
     let n = g.C.Chip.meaning c.program.new.self in
-    let h = c.in-err-program.ensures in
-    let p = err_from_is_err_and c.from-residual.result c.from-residual.ensures.1 in
+    let h = c.in_err-program.ensures in
+    let p = err_from_is_err_and c.from_residual.result c.from_residual.ensures.1 in
     let D = data_pages c.args.geometry.blocks in
     let left = closing_fails D (omega arith) c.args.active c.args.number m c.requires.on (omega arith) c.requires.settled c.requires.free
     c.trailer_page.result.0 c.write_trailer-note.result c.write_trailer-note.new.page (c.trailer_page.ensures ∙ ap (trailer_at D) c.other-2.ensures)
@@ -29,5 +29,5 @@ returns g c =
     let left = closing_ends D (omega arith) c.args.active c.args.number m c.requires.on (omega arith) c.requires.settled c.requires.free
     c.trailer_page.result.0 c.write_trailer-note.result c.write_trailer-note.new.page (c.trailer_page.ensures ∙ ap (trailer_at D) c.other-2.ensures)
     c.write_trailer-note.ensures.note (c.write_trailer-note.ensures.bytes ∙ ap (λ a. trailer_data a D) c.other.ensures) n
-    c.in-ok-program.ensures.rules n' c.sync.result h.rules in
+    c.in_ok-program.ensures.rules n' c.sync.result h.rules in
     record { sound = h.sound; done = left.done; others = left.others; over = left.over }

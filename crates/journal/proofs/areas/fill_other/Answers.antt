@@ -20,13 +20,13 @@ write_entries-note-requires g c = record { inside = omega (arith, ap length c.as
 pub program-requires : goal.program-requires
 program-requires g c = c.loop-j.invariant.0
 
-pub returns-in-err-program : goal.returns-in-err-program
-returns-in-err-program g c =
+pub returns-in_err-program : goal.returns-in_err-program
+returns-in_err-program g c =
     let m = g.C.Chip.meaning c.args.chip.now in
     let n = g.C.Chip.meaning c.loop-j.chip in
     let n' = g.C.Chip.meaning c.program.new.self in
-    let h = c.in-err-program.ensures in
-    let p = err_from_is_err_and c.from-residual.result c.from-residual.ensures.1 in
+    let h = c.in_err-program.ensures in
+    let p = err_from_is_err_and c.from_residual.result c.from_residual.ensures.1 in
     let D = data_pages c.args.geometry.blocks in
     let t = table_of c.args.table.now in
     let left = filling_fails D (omega arith) c.args.active t m c.requires.settled c.requires.free c.loop-j.j n c.loop-j.invariant.2 (omega arith) (omega arith)
@@ -40,7 +40,7 @@ loop-j-preserved g c =
     let m = g.C.Chip.meaning c.args.chip.now in
     let n = g.C.Chip.meaning c.loop-j.chip in
     let n' = g.C.Chip.meaning c.program.new.self in
-    let h = c.in-ok-program.ensures in
+    let h = c.in_ok-program.ensures in
     let D = data_pages c.args.geometry.blocks in
     let t = table_of c.args.table.now in
     let whole = c.write_entries-note.auto.page ∙ c.loop-j.invariant.1 in (

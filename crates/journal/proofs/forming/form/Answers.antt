@@ -10,7 +10,7 @@ use Rattle.journal.proofs.forming.form.Goals as goal
 
 pub fill_other-requires : goal.fill_other-requires
 fill_other-requires g c =
-    let wiped = c.in-ok-wipe.ensures in
+    let wiped = c.in_ok-wipe.ensures in
     record {
       sound = wiped.sound;
       on = wiped.done.power;
@@ -27,9 +27,9 @@ returns g c =
     let m₁ = g.C.Chip.meaning c.wipe.new.chip in
     let m₂ = g.C.Chip.meaning c.fill_other.new.chip in
     let m₃ = g.C.Chip.meaning c.close_other.new.chip in
-    let one = c.in-ok-wipe.ensures in
-    let two = c.in-ok-fill_other.ensures in
-    let three = c.in-ok-close_other.ensures in
+    let one = c.in_ok-wipe.ensures in
+    let two = c.in_ok-fill_other.ensures in
+    let three = c.in_ok-close_other.ensures in
     let filled = subst (λ t. Lands m₁ (with_entries D Two t (shown m₁)) m₂) c.empty_table.ensures two.done in
     record {
       sound = three.sound;

@@ -9,13 +9,13 @@ loop-b-init g c = (c.requires.sound, wiping_none (g.C.Chip.meaning c.args.chip.n
 pub erase-requires : goal.erase-requires
 erase-requires g c = c.loop-b.invariant.0
 
-pub returns-in-err-erase : goal.returns-in-err-erase
-returns-in-err-erase g c =
+pub returns-in_err-erase : goal.returns-in_err-erase
+returns-in_err-erase g c =
     let m = g.C.Chip.meaning c.args.chip.now in
     let n = g.C.Chip.meaning c.loop-b.chip in
     let k = g.C.Chip.meaning c.erase.new.self in
-    let h = c.in-err-erase.ensures in
-    let p = err_from_is_err_and c.from-residual.result c.from-residual.ensures.1 in
+    let h = c.in_err-erase.ensures in
+    let p = err_from_is_err_and c.from_residual.result c.from_residual.ensures.1 in
     let inside : c.loop-b.b < m.size = omega (arith, c.requires.fits) in
     record {
       sound = h.sound;
@@ -27,7 +27,7 @@ loop-b-preserved g c =
     let m = g.C.Chip.meaning c.args.chip.now in
     let n = g.C.Chip.meaning c.loop-b.chip in
     let k = g.C.Chip.meaning c.erase.new.self in
-    let h = c.in-ok-erase.ensures in
+    let h = c.in_ok-erase.ensures in
     (h.sound, wiping_more m n c.loop-b.b c.requires.settled c.loop-b.invariant.1 k h.rules)
 
 pub sync-requires : goal.sync-requires

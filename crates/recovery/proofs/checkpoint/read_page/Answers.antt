@@ -9,8 +9,8 @@ use Rattle.recovery.proofs.checkpoint.read_page.Goals as goal
 pub returns-then-take_entries : goal.returns-then-take_entries
 returns-then-take_entries g c =
     let s = shown (g.C.Chip.meaning c.args.chip.now) in
-    let seen = c.in-ok-seen.ensures in
-    let saw = subst (λ p. Saw (s p) c.in-ok-seen.seen c.look.new.buf) c.entry_page-page.ensures seen.saw.1 in
+    let seen = c.in_ok-seen.ensures in
+    let saw = subst (λ p. Saw (s p) c.in_ok-seen.seen c.look.new.buf) c.entry_page-page.ensures seen.saw.1 in
     record {
       sound = seen.sound;
       quiet = seen.quiet;
@@ -24,8 +24,8 @@ returns-then-take_entries g c =
 pub returns-else-take_entries : goal.returns-else-take_entries
 returns-else-take_entries g c =
     let s = shown (g.C.Chip.meaning c.args.chip.now) in
-    let seen = c.in-ok-seen.ensures in
-    let saw = subst (λ p. Saw (s p) c.in-ok-seen.seen c.look.new.buf) c.entry_page-page.ensures seen.saw.1 in
+    let seen = c.in_ok-seen.ensures in
+    let saw = subst (λ p. Saw (s p) c.in_ok-seen.seen c.look.new.buf) c.entry_page-page.ensures seen.saw.1 in
     record {
       sound = seen.sound;
       quiet = seen.quiet;

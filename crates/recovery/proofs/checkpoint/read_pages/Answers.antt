@@ -21,13 +21,13 @@ read_page-requires g c =
       sofar = reading_sofar (g.C.Chip.sound c.loop-j.chip) (data_pages c.args.geometry.blocks) c.args.area (g.C.Chip.meaning c.args.chip.now) n n c.loop-j.j c.loop-j.table c.loop-j.invariant;
     }
 
-pub returns-in-err-read_page : goal.returns-in-err-read_page
-returns-in-err-read_page g c =
+pub returns-in_err-read_page : goal.returns-in_err-read_page
+returns-in_err-read_page g c =
     let m = g.C.Chip.meaning c.args.chip.now in
     let n = g.C.Chip.meaning c.loop-j.chip in
     let k = g.C.Chip.meaning c.read_page.new.chip in
-    let page = c.in-err-read_page.ensures in
-    let p = err_from_is_err_and c.from-residual.result c.from-residual.ensures.1 in
+    let page = c.in_err-read_page.ensures in
+    let p = err_from_is_err_and c.from_residual.result c.from_residual.ensures.1 in
     let few : c.loop-j.j < entry_pages (data_pages c.args.geometry.blocks) = omega arith in
     record {
       sound = page.sound;
@@ -40,7 +40,7 @@ loop-j-preserved g c =
     let m = g.C.Chip.meaning c.args.chip.now in
     let n = g.C.Chip.meaning c.loop-j.chip in
     let k = g.C.Chip.meaning c.read_page.new.chip in
-    let page = c.in-ok-read_page.ensures in
+    let page = c.in_ok-read_page.ensures in
     reading_more (g.C.Chip.sound c.loop-j.chip) (data_pages c.args.geometry.blocks) c.args.area m n k c.loop-j.j c.loop-j.table c.loop-j.invariant
     (g.C.Chip.sound c.read_page.new.chip) c.read_page.new.table page.sound page.quiet page.found.0 page.found.1
 

@@ -4,14 +4,14 @@ use Rattle.recovery.proofs.Lookwise.{quiet_then}
 use Rattle.recovery.proofs.Datawise.{backed_more, backed_stuck}
 use Rattle.recovery.proofs.data_pages.check_data.Goals as goal
 
-pub returns-in-err-check_entry : goal.returns-in-err-check_entry
-returns-in-err-check_entry g c =
+pub returns-in_err-check_entry : goal.returns-in_err-check_entry
+returns-in_err-check_entry g c =
     let m = g.C.Chip.meaning c.args.chip.now in
     let m₁ = g.C.Chip.meaning c.loop-i.chip in
     let m₂ = g.C.Chip.meaning c.check_entry.new.chip in
-    let h = c.in-err-check_entry.ensures in
+    let h = c.in_err-check_entry.ensures in
     let inv = c.loop-i.invariant in
-    let p = err_from_is_err_and c.from-residual.result c.from-residual.ensures.1 in
+    let p = err_from_is_err_and c.from_residual.result c.from_residual.ensures.1 in
     record {
       sound = h.sound;
       quiet = quiet_then m m₁ m₂ inv.2 h.quiet;
@@ -23,7 +23,7 @@ loop-i-preserved g c =
     let m = g.C.Chip.meaning c.args.chip.now in
     let m₁ = g.C.Chip.meaning c.loop-i.chip in
     let m₂ = g.C.Chip.meaning c.check_entry.new.chip in
-    let h = c.in-ok-check_entry.ensures in
+    let h = c.in_ok-check_entry.ensures in
     let inv = c.loop-i.invariant in (
       h.sound,
       h.found.0,

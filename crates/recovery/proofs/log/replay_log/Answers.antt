@@ -6,16 +6,16 @@ use Rattle.recovery.proofs.Lookwise.{quiet_then}
 use Rattle.recovery.proofs.Logwise.{logged_more, logged_stuck}
 use Rattle.recovery.proofs.log.replay_log.Goals as goal
 
-pub returns-in-err-next : goal.returns-in-err-next
-returns-in-err-next g c =
+pub returns-in_err-next : goal.returns-in_err-next
+returns-in_err-next g c =
     let D = data_pages c.args.geometry.blocks in
     let m = g.C.Chip.meaning c.args.chip.now in
     let m₁ = g.C.Chip.meaning c.loop-j.chip in
     let m₂ = g.C.Chip.meaning c.replay_at.new.chip in
-    let h = c.in-err-next.ensures in
+    let h = c.in_err-next.ensures in
     let inv = c.loop-j.invariant in
     let l : c.loop-j.j < log_pages D = omega (arith, c.loop-j-test.true, c.log_pages-j-end.ensures) in
-    let p = err_from_is_err_and c.from-residual.result c.from-residual.ensures.1 in
+    let p = err_from_is_err_and c.from_residual.result c.from_residual.ensures.1 in
     record {
       sound = h.sound;
       quiet = quiet_then m m₁ m₂ inv.2 h.quiet;
@@ -28,7 +28,7 @@ loop-j-preserved g c =
     let m = g.C.Chip.meaning c.args.chip.now in
     let m₁ = g.C.Chip.meaning c.loop-j.chip in
     let m₂ = g.C.Chip.meaning c.replay_at.new.chip in
-    let h = c.in-ok-next.ensures in
+    let h = c.in_ok-next.ensures in
     let inv = c.loop-j.invariant in (
       h.sound,
       h.found.0,

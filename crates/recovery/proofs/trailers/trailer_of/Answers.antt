@@ -7,10 +7,10 @@ use Rattle.recovery.proofs.trailers.trailer_of.Goals as goal
 pub returns : goal.returns
 returns g c =
     let m = g.C.Chip.meaning c.args.chip.now in
-    let seen = c.in-ok-seen.ensures in
+    let seen = c.in_ok-seen.ensures in
     record {
       sound = seen.sound;
       quiet = seen.quiet;
       found = judged_stage (data_pages c.args.geometry.blocks) (shown m) c.args.area c.judge.result (g.C.Chip.meaning c.look.new.chip) seen.saw.0
-          (c.judge.ensures _ (subst (λ p. Saw (shown m p) c.in-ok-seen.seen c.look.new.buf) c.trailer_page.ensures seen.saw.1));
+          (c.judge.ensures _ (subst (λ p. Saw (shown m p) c.in_ok-seen.seen c.look.new.buf) c.trailer_page.ensures seen.saw.1));
     }

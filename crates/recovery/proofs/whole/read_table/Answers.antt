@@ -11,7 +11,7 @@ use Rattle.recovery.proofs.whole.read_table.Goals as goal
 pub of_entries-requires : goal.of_entries-requires
 of_entries-requires g c =
     let D = data_pages c.args.geometry.blocks in
-    let pages = c.in-ok-read_pages.ensures in
+    let pages = c.in_ok-read_pages.ensures in
     let t = c.read_pages.new.table in
     record {
       whole = whole_array t _ c.data_pages-count.result (length-replicate {A = Entry} 448 empty) (pages.found.1.long ∙ sym c.data_pages-count.ensures) (omega arith);
@@ -21,7 +21,7 @@ of_entries-requires g c =
 pub returns : goal.returns
 returns g c =
     let D = data_pages c.args.geometry.blocks in
-    let pages = c.in-ok-read_pages.ensures in
+    let pages = c.in_ok-read_pages.ensures in
     let t = c.read_pages.new.table in
     record {
       sound = pages.sound;

@@ -12,12 +12,12 @@ restore-requires g c =
     let D = data_pages c.args.geometry.blocks in
     let m = g.C.Chip.meaning c.args.chip.now in
     let m₁ = g.C.Chip.meaning c.active_area.new.chip in
-    let active = c.in-ok-area.ensures in
+    let active = c.in_ok-area.ensures in
     record {
       sound = active.sound;
       fits = active.quiet.size ∙ c.requires.fits;
       whole = c.active_area.auto.buf ∙ search rules;
-      active = subst (λ s. Active D s c.in-ok-area.area c.in-ok-area.number) (sym (moved m m₁ active.quiet)) active.found.1;
+      active = subst (λ s. Active D s c.in_ok-area.area c.in_ok-area.number) (sym (moved m m₁ active.quiet)) active.found.1;
     }
 
 pub returns : goal.returns
@@ -26,7 +26,7 @@ returns g c =
     let m = g.C.Chip.meaning c.args.chip.now in
     let m₁ = g.C.Chip.meaning c.active_area.new.chip in
     let m₂ = g.C.Chip.meaning c.restore.new.chip in
-    let active = c.in-ok-area.ensures in
+    let active = c.in_ok-area.ensures in
     let rest = c.restore.ensures in
     record {
       sound = rest.sound;

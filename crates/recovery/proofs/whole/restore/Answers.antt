@@ -9,11 +9,11 @@ use Rattle.recovery.proofs.Lookwise.{quiet_then}
 use Rattle.recovery.proofs.Wholly.{entries_failed, moved}
 use Rattle.recovery.proofs.whole.restore.Goals as goal
 
-pub returns-in-err-table : goal.returns-in-err-table
-returns-in-err-table g c =
+pub returns-in_err-table : goal.returns-in_err-table
+returns-in_err-table g c =
     let m = g.C.Chip.meaning c.args.chip.now in
-    let table = c.in-err-table.ensures in
-    let p = err_from_is_err_and c.from-residual.result c.from-residual.ensures.1 in
+    let table = c.in_err-table.ensures in
+    let p = err_from_is_err_and c.from_residual.result c.from_residual.ensures.1 in
     record {
       sound = table.sound;
       quiet = table.quiet;
@@ -25,7 +25,7 @@ finish-requires g c =
     let D = data_pages c.args.geometry.blocks in
     let m = g.C.Chip.meaning c.args.chip.now in
     let m₁ = g.C.Chip.meaning c.read_table.new.chip in
-    let table = c.in-ok-table.ensures in
+    let table = c.in_ok-table.ensures in
     let back = sym (moved m m₁ table.quiet) in
     record {
       sound = table.sound;
@@ -33,7 +33,7 @@ finish-requires g c =
       fits = table.quiet.size ∙ c.requires.fits;
       whole = c.read_table.auto.buf ∙ c.requires.whole;
       active = subst (λ s. Active D s c.args.area c.args.number) back c.requires.active;
-      entries = subst (λ s. Entered D s c.args.area (entry_pages D) (table_of c.in-ok-table.table)) back table.found.1;
+      entries = subst (λ s. Entered D s c.args.area (entry_pages D) (table_of c.in_ok-table.table)) back table.found.1;
     }
 
 pub returns : goal.returns
@@ -42,7 +42,7 @@ returns g c =
     let m = g.C.Chip.meaning c.args.chip.now in
     let m₁ = g.C.Chip.meaning c.read_table.new.chip in
     let m₂ = g.C.Chip.meaning c.finish.new.chip in
-    let table = c.in-ok-table.ensures in
+    let table = c.in_ok-table.ensures in
     let rest = c.finish.ensures in
     record {
       sound = rest.sound;

@@ -5,21 +5,21 @@ use Rattle.layout.specs.Geometry.{geometry_refusal}
 use Rattle.cache.proofs.Starting.{adopted, not_adopted}
 use Rattle.cache.proofs.bare.BareCache.adopt.Goals as goal
 
-pub returns-in-err-memory : goal.returns-in-err-memory
-returns-in-err-memory g c =
+pub returns-in_err-memory : goal.returns-in_err-memory
+returns-in_err-memory g c =
     let number = c.blocks-2.ensures.number in
-    let fit = c.in-ok-geometry.ensures in
-    let p = err_from_is_err_and {Q = λ f. f ≡ c.in-err-memory.field-0.0} c.from-residual-in-err-memory.result c.from-residual-in-err-memory.ensures.1 in
-    let h = not_adopted g.C.Chip.meaning g.C.Chip.sound c.args.self.now c.in-ok-geometry.geometry (ap geometry_refusal (sym number) ∙ fit.0) (fit.1 ∙ number)
-    c.wake.new.chip c.in-err-memory.ensures.sound c.in-err-memory.field-0.0 c.from-residual-in-err-memory.result (p.1 ∙ ap Err p.2) c.in-err-memory.ensures.wakes in
+    let fit = c.in_ok-geometry.ensures in
+    let p = err_from_is_err_and {Q = λ f. f ≡ c.in_err-memory.field-0.0} c.from_residual-in_err-memory.result c.from_residual-in_err-memory.ensures.1 in
+    let h = not_adopted g.C.Chip.meaning g.C.Chip.sound c.args.self.now c.in_ok-geometry.geometry (ap geometry_refusal (sym number) ∙ fit.0) (fit.1 ∙ number)
+    c.wake.new.chip c.in_err-memory.ensures.sound c.in_err-memory.field-0.0 c.from_residual-in_err-memory.result (p.1 ∙ ap Err p.2) c.in_err-memory.ensures.wakes in
     record { sound = h.sound; adopts = h.call }
 
 pub returns : goal.returns
 returns g c =
     let number = c.blocks-2.ensures.number in
-    let fit = c.in-ok-geometry.ensures in
-    let found = c.in-ok-memory.ensures in
-    let h = adopted g.C.Chip.meaning g.C.Chip.sound c.args.self.now c.in-ok-geometry.geometry (ap geometry_refusal (sym number) ∙ fit.0) (fit.1 ∙ number)
-    c.wake.new.chip found.sound c.in-ok-memory.memory found.wakes.0 c.grant.new.self c.grant.result
+    let fit = c.in_ok-geometry.ensures in
+    let found = c.in_ok-memory.ensures in
+    let h = adopted g.C.Chip.meaning g.C.Chip.sound c.args.self.now c.in_ok-geometry.geometry (ap geometry_refusal (sym number) ∙ fit.0) (fit.1 ∙ number)
+    c.wake.new.chip found.sound c.in_ok-memory.memory found.wakes.0 c.grant.new.self c.grant.result
     c.grant.ensures.chip c.grant.ensures.memory c.grant.ensures.granted found.wakes.1 in
     record { sound = h.sound; adopts = h.call }

@@ -7,13 +7,13 @@ use Rattle.journal.proofs.Noting.{count_some, count_none}
 use Rattle.journal.proofs.Committing.{unsynced, synced_flat, synced_ready, commit_nothing, commit_logged, commit_checkpointed}
 use Rattle.journal.proofs.memory.Journal.commit.Goals as goal
 
-pub returns-in-err-settle_data : goal.returns-in-err-settle_data
-returns-in-err-settle_data g c =
+pub returns-in_err-settle_data : goal.returns-in_err-settle_data
+returns-in_err-settle_data g c =
     let j = c.args.self.now in
     let m = g.C.Chip.meaning c.args.chip.now in
     let m₁ = g.C.Chip.meaning c.settle_data.new.chip in
-    let h = c.in-err-settle_data.ensures in
-    let p = err_from_is_err_and c.from-residual.result c.from-residual.ensures.1 in
+    let h = c.in_err-settle_data.ensures in
+    let p = err_from_is_err_and c.from_residual.result c.from_residual.ensures.1 in
     record { sound = h.sound; size = refl; commits = rw (p.1, p.2) (unsynced (pages_of j) m m₁ (noted j) _ c.requires.ready h.rules) }
 
 pub returns-then-self-eq0 : goal.returns-then-self-eq0
@@ -21,7 +21,7 @@ returns-then-self-eq0 g c =
     let j = c.args.self.now in
     let m = g.C.Chip.meaning c.args.chip.now in
     let m₁ = g.C.Chip.meaning c.settle_data.new.chip in
-    let h = c.in-ok-settle_data.ensures in
+    let h = c.in_ok-settle_data.ensures in
     record { sound = h.sound; size = refl; commits = commit_nothing (pages_of j) m m₁ (noted j) h.rules (count_none j.staged j.count c.if-self-eq0.true) }
 
 pub log-requires : goal.log-requires
@@ -29,7 +29,7 @@ log-requires g c =
     let j = c.args.self.now in
     let m = g.C.Chip.meaning c.args.chip.now in
     let m₁ = g.C.Chip.meaning c.settle_data.new.chip in
-    let h = c.in-ok-settle_data.ensures in
+    let h = c.in_ok-settle_data.ensures in
     record {
       sound = h.sound;
       ready = synced_ready (pages_of j) m m₁ (noted j) h.rules c.requires.ready;
@@ -43,7 +43,7 @@ checkpoint-requires g c =
     let j = c.args.self.now in
     let m = g.C.Chip.meaning c.args.chip.now in
     let m₁ = g.C.Chip.meaning c.settle_data.new.chip in
-    let h = c.in-ok-settle_data.ensures in
+    let h = c.in_ok-settle_data.ensures in
     record {
       sound = h.sound;
       ready = synced_ready (pages_of j) m m₁ (noted j) h.rules c.requires.ready;
@@ -60,7 +60,7 @@ returns-then-self-log_pages g c =
     record {
       sound = c.log.ensures.sound;
       size = c.log.ensures.size;
-      commits = commit_logged (pages_of j) m m₁ m₂ (noted j) (noted c.log.new.self) c.log.result c.in-ok-settle_data.ensures.rules
+      commits = commit_logged (pages_of j) m m₁ m₂ (noted j) (noted c.log.new.self) c.log.result c.in_ok-settle_data.ensures.rules
           (count_some j.staged j.count j.whole j.few c.if-self-eq0.false) room c.log.ensures.commits;
     }
 
@@ -74,6 +74,6 @@ returns-else-self-log_pages g c =
     record {
       sound = c.checkpoint.ensures.sound;
       size = c.checkpoint.ensures.size;
-      commits = commit_checkpointed (pages_of j) m m₁ m₂ (noted j) (noted c.checkpoint.new.self) c.checkpoint.result c.in-ok-settle_data.ensures.rules
+      commits = commit_checkpointed (pages_of j) m m₁ m₂ (noted j) (noted c.checkpoint.new.self) c.checkpoint.result c.in_ok-settle_data.ensures.rules
           (count_some j.staged j.count j.whole j.few c.if-self-eq0.false) full c.checkpoint.ensures.commits;
     }

@@ -11,11 +11,11 @@ returns g c =
     let mP = g.P.Chip.meaning in
     let mQ = g.Q.Chip.meaning in
     let x = c.report.new.self in
-    let r = c.erase_answer.result in
-    let now = means_now mP mQ x c.erase_answer.new.self s.second (keeps_power r) c.report.ensures.power in
-    let t = erase_in_first s.on (mP s.first) (mQ s.second) (mP c.erase_answer.new.self) c.args.block.0 c.requires.sound.0 c.requires.power c.requires.lies r
-    c.report.result (pair_meaning mP mQ x) c.report.ensures.answer now c.erase_answer.ensures.rules in
+    let r = c.erase-answer.result in
+    let now = means_now mP mQ x c.erase-answer.new.self s.second (keeps_power r) c.report.ensures.power in
+    let t = erase_in_first s.on (mP s.first) (mQ s.second) (mP c.erase-answer.new.self) c.args.block.0 c.requires.sound.0 c.requires.power c.requires.lies r
+    c.report.result (pair_meaning mP mQ x) c.report.ensures.answer now c.erase-answer.ensures.rules in
     record {
-      sound = sound_now mP mQ x c.erase_answer.new.self s.second (keeps_power r) c.report.ensures.power g.P.Chip.sound g.Q.Chip.sound t.0 c.erase_answer.ensures.sound c.requires.sound.2;
+      sound = sound_now mP mQ x c.erase-answer.new.self s.second (keeps_power r) c.report.ensures.power g.P.Chip.sound g.Q.Chip.sound t.0 c.erase-answer.ensures.sound c.requires.sound.2;
       rules = t.1;
     }

@@ -11,11 +11,11 @@ returns g c =
     let mP = g.P.Chip.meaning in
     let mQ = g.Q.Chip.meaning in
     let x = c.report.new.self in
-    let r = c.erase_answer.result in
-    let now = means_now mP mQ x s.first c.erase_answer.new.self (keeps_power r) c.report.ensures.power in
-    let t = erase_in_second s.on (mP s.first) (mQ s.second) (mQ c.erase_answer.new.self) c.args.block.0 c.args.own.0 c.requires.sound.0 c.requires.power c.requires.lies r
-    c.report.result (pair_meaning mP mQ x) c.report.ensures.answer now c.erase_answer.ensures.rules in
+    let r = c.erase-answer.result in
+    let now = means_now mP mQ x s.first c.erase-answer.new.self (keeps_power r) c.report.ensures.power in
+    let t = erase_in_second s.on (mP s.first) (mQ s.second) (mQ c.erase-answer.new.self) c.args.block.0 c.args.own.0 c.requires.sound.0 c.requires.power c.requires.lies r
+    c.report.result (pair_meaning mP mQ x) c.report.ensures.answer now c.erase-answer.ensures.rules in
     record {
-      sound = sound_now mP mQ x s.first c.erase_answer.new.self (keeps_power r) c.report.ensures.power g.P.Chip.sound g.Q.Chip.sound t.0 c.requires.sound.1 c.erase_answer.ensures.sound;
+      sound = sound_now mP mQ x s.first c.erase-answer.new.self (keeps_power r) c.report.ensures.power g.P.Chip.sound g.Q.Chip.sound t.0 c.requires.sound.1 c.erase-answer.ensures.sound;
       rules = t.1;
     }

@@ -8,7 +8,7 @@ returns g c =
     let s = c.args.self.now in
     let mP = g.P.Chip.meaning in
     let mQ = g.Q.Chip.meaning in
-    let h = c.in-ok-power_on.ensures in
+    let h = c.in_ok-power_on.ensures in
     let t = powers_in_turn s.on (mP s.first) (mQ s.second) (mP c.power_on.new.self) (mQ c.power_on-2.new.self) c.requires.0 c.power_on-2.result h.rules
     c.power_on-2.ensures.rules in
     record {

@@ -6,7 +6,7 @@ use Rattle.space.proofs.blanks.Space.look_at.Goals as goal
 
 pub returns : goal.returns
 returns g c =
-    let h = c.in-ok-seen.ensures in
+    let h = c.in_ok-seen.ensures in
     let m = g.C.Chip.meaning c.args.chip.now in
     let sp = c.args.self.now in
     let p = c.args.page.0 in

@@ -3,12 +3,12 @@ use Rattle.journal.specs.Notes.{noted, pages_of}
 use Rattle.space.proofs.Placing.{places_lost, places_made}
 use Rattle.space.proofs.blanks.Space.place.Goals as goal
 
-pub returns-in-err-program : goal.returns-in-err-program
-returns-in-err-program g c =
+pub returns-in_err-program : goal.returns-in_err-program
+returns-in_err-program g c =
     let m = g.C.Chip.meaning c.args.chip.now in
     let m' = g.C.Chip.meaning c.program.new.self in
-    let h = c.in-err-program.ensures in
-    let p = err_from_is_err_and c.from-residual.result c.from-residual.ensures.1 in
+    let h = c.in_err-program.ensures in
+    let p = err_from_is_err_and c.from_residual.result c.from_residual.ensures.1 in
     let (t, kept) = c.requires.keeps in
     record {
       sound = h.sound;
@@ -21,7 +21,7 @@ pub returns : goal.returns
 returns g c =
     let m = g.C.Chip.meaning c.args.chip.now in
     let m' = g.C.Chip.meaning c.program.new.self in
-    let h = c.in-ok-program.ensures in
+    let h = c.in_ok-program.ensures in
     let (t, kept) = c.requires.keeps in
     record {
       sound = h.sound;

@@ -9,7 +9,7 @@ loop-i-preserved g c =
     let m = g.C.Chip.meaning c.args.chip.now in
     let m₁ = g.C.Chip.meaning c.loop-i.chip in
     let m₂ = g.C.Chip.meaning c.look_at.new.chip in
-    let h = c.in-ok-look_at.ensures in
+    let h = c.in_ok-look_at.ensures in
     let inv = c.loop-i.invariant in (
       h.sound,
       h.found.0,

@@ -7,16 +7,15 @@ use Rattle.table.proofs.Changing.{alone_held, remarked_none, remarked_proper}
 use Rattle.table.proofs.Keeping.{table_proper, remarked_there}
 use Rattle.table.proofs.mapping.MappingTable.remark.Goals as goal
 
-pub invariant-of-self : goal.invariant-of-self
-invariant-of-self c =
+pub invariant_of-self : goal.invariant_of-self
+invariant_of-self c =
     let s = c.args.self.now in
     let a = c.args.address.0 in
     let p = c.in-Some.page.0 in
     let e = c.entry_with.result in
-    let m = c.args.mark in (
-      length-set s.entries p e ∙ s.whole,
-      (s.within, kept s.pages _ (remarked (table_of s) m a) (remarked_there s a p c.in-Some.ensures m e c.entry_with.ensures) (remarked_proper (table_of s) (table_proper s) m a)),
-    )
+    let m = c.args.mark in
+    let k = kept s.pages _ (remarked (table_of s) m a) (remarked_there s a p c.in-Some.ensures m e c.entry_with.ensures) (remarked_proper (table_of s) (table_proper s) m a) in
+    record { whole = length-set s.entries p e ∙ s.whole; within = s.within; fit = k.0; distinct = k.1 }
 
 pub returns-in-Some : goal.returns-in-Some
 returns-in-Some c =
