@@ -1,5 +1,6 @@
 -- A page that is held enters an address: the put is staged, the table changes with it, and a commit comes if it must.
 use Rattle.std.proofs.Common.{◌≡◌, ℕ, ◌<◌, ◌≤◌, Bool, true, false, cond, not, ◌&&◌, ◌||◌, ltb, ◌≢◌, ◌⊎◌, [], ◌∷◌, length, Some, None, Ok, Err, Result, sym, refl, ap, ◌∙◌, subst, inl, inr, ⊎_elim, arith}
+use denote.Enum.Bare.{sameb}
 use Rattle.std.proofs.ByRecursion.{All-push}
 use Rattle.std.proofs.lemmas.List.{length-append}
 use Rattle.std.proofs.lemmas.Bool.{lt-ltb, and_from, or_left, not_from_false, both_ways, cases_Bool, cases_eq, cond-true, cond-false}
@@ -7,6 +8,7 @@ use Rattle.device.specs.declared.faults.Fault.{Fault}
 use Rattle.device.specs.Chips.{State, Pages, data_page_at}
 use Rattle.layout.specs.declared.entries.Mark.{Mark}
 use Rattle.layout.specs.declared.entries.Mark.TheVariants.{Empty, Clean, Dirty}
+use Rattle.layout.specs.contracts.entries.Mark.{the_type}
 use Rattle.layout.specs.declared.records.Record.{Record}
 use Rattle.layout.specs.Records.{ProperRecord}
 use Rattle.recovery.specs.Looking.{shown}
@@ -37,15 +39,10 @@ mark_held (e ∷ es) a = ⊎_elim
     (λ (n : holds a e ≡ false). ap has_mark (cond-false (holds a e) e.mark (mark_of es a) n) ∙ mark_held es a ∙ sym (ap (λ x. x || held es a) n))
     (cases_Bool (holds a e))
 
-some_mark : (mark : Mark) → (mark ≡ Empty → ⊥) → has_mark mark ≡ true
-some_mark Empty ne = absurd (ne refl)
-some_mark Clean ne = refl
-some_mark Dirty ne = refl
-
-pub held_by_mark : (t : Table) (a : ℕ) (mark : Mark) (r : Bool) → mark ≡ mark_of t a → (x : Bool) × cond x (mark ≡ Empty) (mark ≡ Empty → ⊥) × (r ≡ not x)
-    → r ≡ held t a
-held_by_mark t a mark r is (true, e, q) = q ∙ sym (ap has_mark e) ∙ ap has_mark is ∙ mark_held t a
-held_by_mark t a mark r is (false, ne, q) = q ∙ sym (some_mark mark ne) ∙ ap has_mark is ∙ mark_held t a
+pub held_by_mark : (t : Table) (a : ℕ) (mark : Mark) (r : Bool) → mark ≡ mark_of t a → r ≡ not (sameb the_type mark Empty) → r ≡ held t a
+held_by_mark t a Empty r is q = q ∙ ap has_mark is ∙ mark_held t a
+held_by_mark t a Clean r is q = q ∙ ap has_mark is ∙ mark_held t a
+held_by_mark t a Dirty r is q = q ∙ ap has_mark is ∙ mark_held t a
 
 pub must_by : (dirty r : Bool) (a : ℕ) (w : World) → r ≡ held w.noted.table a → (dirty ≡ true) ⊎ ((dirty ≡ false) × (r ≡ true)) → must_commit dirty a w ≡ true
 must_by dirty r a w is (inl e) = cond-true dirty true (held w.noted.table a) e

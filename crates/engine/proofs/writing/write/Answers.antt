@@ -23,9 +23,9 @@ returns-in_err-page g c =
           c.in_err-page.field-0.0 m₁ v₁ sp₁ c.in_err-page.ensures.finds);
     }
 
-pub returns-in_err-place : goal.returns-in_err-place
-returns-in_err-place g c =
-    let p = err_from_is_err_and c.from_residual-in_err-place.result c.from_residual-in_err-place.ensures.1 in
+pub returns-in_err-place-in-Some : goal.returns-in_err-place-in-Some
+returns-in_err-place-in-Some g c =
+    let p = err_from_is_err_and c.from_residual-in_err-place-in-Some.result c.from_residual-in_err-place-in-Some.ensures.1 in
     let j = c.args.journal.now in
     let D = pages_of j in
     let m = g.C.Chip.meaning c.args.chip.now in
@@ -35,7 +35,7 @@ returns-in_err-place g c =
     let i = c.in-Some.page in
     let a = c.args.address.0 in
     let bytes = c.args.bytes.now in
-    let f = c.in_err-place.field-0.0 in
+    let f = c.in_err-place-in-Some.field-0.0 in
     let m₂ = g.C.Chip.meaning c.place.new.chip in
     let sp₂ = c.place.new.self in
     let size : pages_of c.find_room.new.journal ≡ D = ap (λ z. data_pages z.blocks) c.find_room.ensures.size in
@@ -44,7 +44,7 @@ returns-in_err-place g c =
       sound = c.place.ensures.sound;
       size = c.find_room.ensures.size;
       writes = rw (p.1, p.2) (write_unplaced D j.geometry.blocks m (noted j) c.args.space.now i m₁ v₁ sp₁ found c.args.dirty a bytes f m₂ sp₂
-          (subst (λ d. Places d i.0 a bytes m₁ v₁ sp₁ (Err f) m₂ sp₂) size c.in_err-place.ensures.places));
+          (subst (λ d. Places d i.0 a bytes m₁ v₁ sp₁ (Err f) m₂ sp₂) size c.in_err-place-in-Some.ensures.places));
     }
 
 pub make_roomy-requires : goal.make_roomy-requires
@@ -65,16 +65,16 @@ make_roomy-requires g c =
     let sp₂ = c.place.new.self in
     let size : pages_of c.find_room.new.journal ≡ D = ap (λ z. data_pages z.blocks) c.find_room.ensures.size in
     let found = subst (λ o. FindsRoom D blocks m v sp (Ok o) m₁ v₁ sp₁) c.in-Some.is c.in_ok-page.ensures.finds in
-    let laid = subst (λ d. Placed d i.0 a bytes m₁ v₁ sp₁ m₂ sp₂) size c.in_ok-place.ensures.places in
+    let laid = subst (λ d. Placed d i.0 a bytes m₁ v₁ sp₁ m₂ sp₂) size c.in_ok-place-in-Some.ensures.places in
     let (u, k, _) = room_holding D blocks m v sp i m₁ v₁ sp₁ found c.requires.holding.0 c.requires.holding.1 in
     record {
       sound = c.place.ensures.sound;
       holding = (u, subst (λ d. Holding d m₂ v₁ sp₂ u) (sym size) (placed_holding D blocks m v sp i m₁ v₁ sp₁ found c.args.dirty a bytes m₂ sp₂ laid u k));
     }
 
-pub returns-in_err-make_roomy : goal.returns-in_err-make_roomy
-returns-in_err-make_roomy g c =
-    let p = err_from_is_err_and c.from_residual-in_err-make_roomy.result c.from_residual-in_err-make_roomy.ensures.1 in
+pub returns-in_err-make_roomy-in-Some : goal.returns-in_err-make_roomy-in-Some
+returns-in_err-make_roomy-in-Some g c =
+    let p = err_from_is_err_and c.from_residual-in_err-make_roomy-in-Some.result c.from_residual-in_err-make_roomy-in-Some.ensures.1 in
     let j = c.args.journal.now in
     let D = pages_of j in
     let blocks = j.geometry.blocks in
@@ -91,15 +91,15 @@ returns-in_err-make_roomy g c =
     let sp₂ = c.place.new.self in
     let size : pages_of c.find_room.new.journal ≡ D = ap (λ z. data_pages z.blocks) c.find_room.ensures.size in
     let found = subst (λ o. FindsRoom D blocks m v sp (Ok o) m₁ v₁ sp₁) c.in-Some.is c.in_ok-page.ensures.finds in
-    let laid = subst (λ d. Placed d i.0 a bytes m₁ v₁ sp₁ m₂ sp₂) size c.in_ok-place.ensures.places in
-    let f = c.in_err-make_roomy.field-0.0 in
+    let laid = subst (λ d. Placed d i.0 a bytes m₁ v₁ sp₁ m₂ sp₂) size c.in_ok-place-in-Some.ensures.places in
+    let f = c.in_err-make_roomy-in-Some.field-0.0 in
     let m₃ = g.C.Chip.meaning c.make_roomy.new.chip in
     let v₃ = noted c.make_roomy.new.journal in
     record {
       sound = c.make_roomy.ensures.sound;
       size = c.make_roomy.ensures.size ∙ c.find_room.ensures.size;
       writes = rw (p.1, p.2) (write_crowded D blocks m v sp i m₁ v₁ sp₁ found c.args.dirty a bytes m₂ sp₂ laid f m₃ v₃
-          (subst (λ d. MakesRoomy d m₂ v₁ sp₂ (Err f) m₃ v₃) size c.in_err-make_roomy.ensures.roomy));
+          (subst (λ d. MakesRoomy d m₂ v₁ sp₂ (Err f) m₃ v₃) size c.in_err-make_roomy-in-Some.ensures.roomy));
     }
 
 pub enter-requires : goal.enter-requires
@@ -120,11 +120,11 @@ enter-requires g c =
     let sp₂ = c.place.new.self in
     let size : pages_of c.find_room.new.journal ≡ D = ap (λ z. data_pages z.blocks) c.find_room.ensures.size in
     let found = subst (λ o. FindsRoom D blocks m v sp (Ok o) m₁ v₁ sp₁) c.in-Some.is c.in_ok-page.ensures.finds in
-    let laid = subst (λ d. Placed d i.0 a bytes m₁ v₁ sp₁ m₂ sp₂) size c.in_ok-place.ensures.places in
+    let laid = subst (λ d. Placed d i.0 a bytes m₁ v₁ sp₁ m₂ sp₂) size c.in_ok-place-in-Some.ensures.places in
     let m₃ = g.C.Chip.meaning c.make_roomy.new.chip in
     let v₃ = noted c.make_roomy.new.journal in
     let size₃ : pages_of c.make_roomy.new.journal ≡ D = ap (λ z. data_pages z.blocks) c.make_roomy.ensures.size ∙ size in
-    let roomier = subst (λ d. MakesRoomy d m₂ v₁ sp₂ (Ok tt) m₃ v₃) size c.in_ok-make_roomy.ensures.roomy in
+    let roomier = subst (λ d. MakesRoomy d m₂ v₁ sp₂ (Ok tt) m₃ v₃) size c.in_ok-make_roomy-in-Some.ensures.roomy in
     let (u, k, _) = room_holding D blocks m v sp i m₁ v₁ sp₁ found c.requires.holding.0 c.requires.holding.1 in
     let (u₂, k₂, _) = roomier.2 u (placed_holding D blocks m v sp i m₁ v₁ sp₁ found c.args.dirty a bytes m₂ sp₂ laid u k) in
     record {
@@ -136,8 +136,8 @@ enter-requires g c =
       «data» = write_data D blocks m v sp i m₁ v₁ sp₁ found c.args.dirty a bytes m₂ sp₂ laid m₃ v₃ roomier;
     }
 
-pub returns-in_ok-make_roomy : goal.returns-in_ok-make_roomy
-returns-in_ok-make_roomy g c =
+pub returns-in_ok-make_roomy-in-Some : goal.returns-in_ok-make_roomy-in-Some
+returns-in_ok-make_roomy-in-Some g c =
     let j = c.args.journal.now in
     let D = pages_of j in
     let blocks = j.geometry.blocks in
@@ -154,11 +154,11 @@ returns-in_ok-make_roomy g c =
     let sp₂ = c.place.new.self in
     let size : pages_of c.find_room.new.journal ≡ D = ap (λ z. data_pages z.blocks) c.find_room.ensures.size in
     let found = subst (λ o. FindsRoom D blocks m v sp (Ok o) m₁ v₁ sp₁) c.in-Some.is c.in_ok-page.ensures.finds in
-    let laid = subst (λ d. Placed d i.0 a bytes m₁ v₁ sp₁ m₂ sp₂) size c.in_ok-place.ensures.places in
+    let laid = subst (λ d. Placed d i.0 a bytes m₁ v₁ sp₁ m₂ sp₂) size c.in_ok-place-in-Some.ensures.places in
     let m₃ = g.C.Chip.meaning c.make_roomy.new.chip in
     let v₃ = noted c.make_roomy.new.journal in
     let size₃ : pages_of c.make_roomy.new.journal ≡ D = ap (λ z. data_pages z.blocks) c.make_roomy.ensures.size ∙ size in
-    let roomier = subst (λ d. MakesRoomy d m₂ v₁ sp₂ (Ok tt) m₃ v₃) size c.in_ok-make_roomy.ensures.roomy in
+    let roomier = subst (λ d. MakesRoomy d m₂ v₁ sp₂ (Ok tt) m₃ v₃) size c.in_ok-make_roomy-in-Some.ensures.roomy in
     let m₄ = g.C.Chip.meaning c.enter.new.chip in
     let v₄ = noted c.enter.new.journal in
     record {

@@ -11,8 +11,8 @@ pub loop-j-init : goal.loop-j-init
 loop-j-init g c =
     (c.requires.sound, refl, filling_none (data_pages c.args.geometry.blocks) c.args.active (table_of c.args.table.now) (g.C.Chip.meaning c.args.chip.now) c.requires.on)
 
-pub slice-bounds-write_entries-end : goal.slice-bounds-write_entries-end
-slice-bounds-write_entries-end g c = sym c.loop-j.invariant.1
+pub slice_bounds-write_entries-end : goal.slice_bounds-write_entries-end
+slice_bounds-write_entries-end g c = sym c.loop-j.invariant.1
 
 pub write_entries-note-requires : goal.write_entries-note-requires
 write_entries-note-requires g c = record { inside = omega (arith, ap length c.as_slice.ensures, c.requires.long); whole = c.loop-j.invariant.1 }

@@ -15,7 +15,7 @@ fill_other-requires g c =
       sound = wiped.sound;
       on = wiped.done.power;
       fits = wiped.done.size ∙ c.requires.fits;
-      long = ap length c.empty_table.ensures ∙ length-replicate (data_pages c.args.geometry.blocks) empty;
+      long = ap length c.empty-table.ensures ∙ length-replicate (data_pages c.args.geometry.blocks) empty;
       settled = wiped.done.settled_all;
       free = λ p h. wiped.done.blanks p (omega (arith, first_area p h, c.requires.fits));
     }
@@ -30,8 +30,8 @@ returns g c =
     let one = c.in_ok-wipe.ensures in
     let two = c.in_ok-fill_other.ensures in
     let three = c.in_ok-close_other.ensures in
-    let filled = subst (λ t. Lands m₁ (with_entries D Two t (shown m₁)) m₂) c.empty_table.ensures two.done in
+    let filled = subst (λ t. Lands m₁ (with_entries D Two t (shown m₁)) m₂) c.empty-table.ensures two.done in
     record {
       sound = three.sound;
-      formed = (c.recovered.ensures.size, all_formed D m m₁ m₂ m₃ (omega (arith, c.requires.fits)) (omega (arith, c.requires.fits)) (ap data_pages (sym c.requires.fits)) one.done filled three.done _ (c.recovered.ensures.noted ∙ noted_formed D _ c.empty_table.ensures));
+      formed = (c.recovered.ensures.size, all_formed D m m₁ m₂ m₃ (omega (arith, c.requires.fits)) (omega (arith, c.requires.fits)) (ap data_pages (sym c.requires.fits)) one.done filled three.done _ (c.recovered.ensures.noted ∙ noted_formed D _ c.empty-table.ensures));
     }

@@ -4,7 +4,7 @@ use Rattle.device.specs.Chips.{block_of, data_page_at}
 use Rattle.space.specs.Worlds.{flags}
 use Rattle.space.proofs.Flagging.{flag_set, freed_none, freed_more, freed_all, freed_here, freed_elsewhere}
 use Rattle.space.proofs.blanks.Space.free.Goals as goal
-use Rattle.space.proofs.blanks.Space.free.Goals.{then-erase-block-block, else-erase-block-block}
+use Rattle.space.proofs.blanks.Space.free.Goals.{then-erase_block-block, else-erase_block-block}
 
 pub loop-i-init : goal.loop-i-init
 loop-i-init c = (refl, refl, freed_none c.args.block.0 c.args.self.now.pages (λ k. get_or (flags c.args.self.now) k false))
@@ -21,13 +21,13 @@ loop-i-preserved c =
     let at : c.erase_block.result.0 ≡ block_of (data_page_at i) = c.erase_block.ensures ∙ ap block_of c.chip_page.ensures in
     let inside : i < sp.pages = omega (arith, inv.0) in
     elim c.if-erase_block-block.branch [
-      | then-erase-block-block w ↦ (
+      | then-erase_block-block w ↦ (
         ap (λ z. z.pages) w.self-is ∙ inv.0,
         ap (λ z. z.cursor) w.self-is ∙ inv.1,
         freed_more b _ i _ f g inv.2 (freed_here b i f g (eq-eqb _ b (sym at ∙ w.if-erase_block-block.true))
             (λ k. ap (λ z. get_or (flags z) k false) w.self-is ∙ flag_set sp.blank sp.pages i true (omega arith) inside k)),
       )
-      | else-erase-block-block w ↦ (
+      | else-erase_block-block w ↦ (
         ap (λ z. z.pages) w.self-is ∙ inv.0,
         ap (λ z. z.cursor) w.self-is ∙ inv.1,
         freed_more b _ i _ f g inv.2 (λ k. ap (λ z. get_or (flags z) k false) w.self-is
