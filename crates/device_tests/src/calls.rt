@@ -2,7 +2,6 @@
 use crate::bytes::{UNTOUCHED, fill, has_tag, is_untouched, note_of};
 use device::{Chip, ChipPage, EraseBlock, Fault};
 use std::process::Abort;
-use std::test::Fail;
 
 // A call. A read has its page and the length of its buffer, a program its page, the number of its bytes and their tag.
 #[derive(Clone, Copy)]
@@ -104,18 +103,13 @@ fn answer_to<C: Chip>(chip: &mut C, call: Call) -> Answer
     }
 }
 
-// Makes the calls in turn and checks every answer.
-pub(super) fn check_steps<C: Chip>(
-    rt: &impl Abort,
-    chip: &mut C,
-    steps: &[Step],
-) -> Result<(), Fail>
+// Makes the calls of a row in turn and checks every answer.
+pub(super) fn check_steps<C: Chip>(rt: &impl Abort, row: usize, chip: &mut C, steps: &[Step])
     requires { C.Chip.sound chip.old }
     ensures sound { C.Chip.sound chip.new }
 {
     for k in 0..steps.len() {
         let Step(call, answer) = steps[k];
-        assert_eq!(rt; answer_to(chip, call), answer, "step {k}");
+        assert_eq!(rt; answer_to(chip, call), answer, "row {row}, step {k}");
     }
-    Ok(())
 }

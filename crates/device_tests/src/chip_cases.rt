@@ -3,7 +3,6 @@ use crate::bytes::fill;
 use crate::calls::{Answer, Call, Step, check_steps};
 use image::ImageChip;
 use std::process::Abort;
-use std::test::Fail;
 
 // The bytes of a chip image of two erase blocks.
 pub(super) const TWO_BLOCKS: usize = 8320;
@@ -47,31 +46,34 @@ pub(super) fn lay(image: &mut [u8], frames: &[Frame]) {
 }
 
 // Checks every byte of the image afterwards.
-pub(super) fn check_image(rt: &impl Abort, image: &[u8], case: &Case) {
+pub(super) fn check_image(rt: &impl Abort, row: usize, image: &[u8], case: &Case) {
     let mut expected = [0; TWO_BLOCKS];
     lay(&mut expected, case.before);
     lay(&mut expected, case.after);
-    assert!(rt; image == &expected, "the image afterwards");
+    assert!(rt;
+        image == expected.as_slice(),
+        "row {row}, the image afterwards"
+    );
 }
 
 // Makes an image chip and takes the steps.
 fn take_steps<'a>(
     rt: &impl Abort,
+    row: usize,
     image: &'a mut [u8],
     fuses: &'a [u32],
     steps: &[Step],
-) -> Result<(), Fail> {
-    match ImageChip::new(image, fuses) {
-        Ok(mut chip) => check_steps(rt, &mut chip, steps),
-        Err(_) => Err(Fail::new("no chip was made")),
-    }
+) {
+    let Ok(mut chip) = ImageChip::new(image, fuses) else {
+        panic!(rt; "row {row}, no chip was made");
+    };
+    check_steps(rt, row, &mut chip, steps);
 }
 
-// Tries a case over an image chip.
-pub(super) fn try_chip(rt: &impl Abort, case: &Case) -> Result<(), Fail> {
+// Tries the case of a row over an image chip.
+pub(super) fn try_chip(rt: &impl Abort, row: usize, case: &Case) {
     let mut image = [0; TWO_BLOCKS];
     lay(&mut image, case.before);
-    take_steps(rt, &mut image, case.fuses, case.steps)?;
-    check_image(rt, &image, case);
-    Ok(())
+    take_steps(rt, row, &mut image, case.fuses, case.steps);
+    check_image(rt, row, &image, case);
 }

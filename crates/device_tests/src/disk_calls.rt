@@ -3,7 +3,6 @@ use crate::bytes::{UNTOUCHED, fill, has_tag};
 use crate::calls::{Answer, done, unread};
 use device::{Disk, DiskAddress, Fault};
 use std::process::Abort;
-use std::test::Fail;
 
 // A call. A read has its block and the length of its buffer, a write its block, the number of its bytes and their tag.
 #[derive(Clone, Copy)]
@@ -63,18 +62,18 @@ fn answer_to<D: Disk>(disk: &mut D, call: DiskCall) -> Answer
     }
 }
 
-// Makes the calls in turn and checks every answer.
+// Makes the calls of a row in turn and checks every answer.
 pub(super) fn check_disk_steps<D: Disk>(
     rt: &impl Abort,
+    row: usize,
     disk: &mut D,
     steps: &[DiskStep],
-) -> Result<(), Fail>
+)
     requires { D.Disk.sound disk.old }
     ensures sound { D.Disk.sound disk.new }
 {
     for k in 0..steps.len() {
         let DiskStep(call, answer) = steps[k];
-        assert_eq!(rt; answer_to(disk, call), answer, "step {k}");
+        assert_eq!(rt; answer_to(disk, call), answer, "row {row}, step {k}");
     }
-    Ok(())
 }

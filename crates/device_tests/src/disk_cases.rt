@@ -4,7 +4,6 @@ use crate::calls::Answer;
 use crate::disk_calls::{DiskCall, DiskStep, check_disk_steps};
 use image::ImageDisk;
 use std::process::Abort;
-use std::test::Fail;
 
 // The bytes of a disk image of three blocks.
 const THREE_BLOCKS: usize = 3078;
@@ -52,38 +51,41 @@ fn lay(image: &mut [u8], frames: &[DiskFrame]) {
 }
 
 // Checks every byte of the image afterwards.
-fn check_image(rt: &impl Abort, image: &[u8], case: &DiskCase) {
+fn check_image(rt: &impl Abort, row: usize, image: &[u8], case: &DiskCase) {
     let mut expected = [0; THREE_BLOCKS];
     lay(&mut expected, case.before);
     lay(&mut expected, case.after);
-    assert!(rt; image == &expected, "the image afterwards");
+    assert!(rt;
+        image == expected.as_slice(),
+        "row {row}, the image afterwards"
+    );
 }
 
 // Makes an image disk and takes the steps.
 fn take_steps<'a>(
     rt: &impl Abort,
+    row: usize,
     image: &'a mut [u8],
     fuses: &'a [u32],
     steps: &[DiskStep],
-) -> Result<(), Fail> {
-    match ImageDisk::new(image, fuses) {
-        Ok(mut disk) => check_disk_steps(rt, &mut disk, steps),
-        Err(_) => Err(Fail::new("no disk was made")),
-    }
+) {
+    let Ok(mut disk) = ImageDisk::new(image, fuses) else {
+        panic!(rt; "row {row}, no disk was made");
+    };
+    check_disk_steps(rt, row, &mut disk, steps);
 }
 
-// Tries a case.
-pub(super) fn try_disk(rt: &impl Abort, case: &DiskCase) -> Result<(), Fail> {
+// Tries the case of a row.
+pub(super) fn try_disk(rt: &impl Abort, row: usize, case: &DiskCase) {
     let mut image = [0; THREE_BLOCKS];
     lay(&mut image, case.before);
-    take_steps(rt, &mut image, case.fuses, case.steps)?;
-    check_image(rt, &image, case);
-    Ok(())
+    take_steps(rt, row, &mut image, case.fuses, case.steps);
+    check_image(rt, row, &image, case);
 }
 
-// Tries a row.
-pub(super) fn try_disk_row(rt: &impl Abort, row: &DiskRow) -> Result<(), Fail> {
-    let DiskRow(before, setup, call, answer, after) = row;
+// Tries what a row says of one call and one block.
+pub(super) fn try_disk_row(rt: &impl Abort, row: usize, trial: &DiskRow) {
+    let DiskRow(before, setup, call, answer, after) = trial;
     let steps = [
         DiskStep(DiskCall::PowerOn, Answer::Done),
         DiskStep(*setup, Answer::Done),
@@ -91,11 +93,12 @@ pub(super) fn try_disk_row(rt: &impl Abort, row: &DiskRow) -> Result<(), Fail> {
     ];
     try_disk(
         rt,
+        row,
         &DiskCase {
             fuses: &[],
             before: &[*before],
             steps: &steps,
             after: &[*after],
         },
-    )
+    );
 }

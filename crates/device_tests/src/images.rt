@@ -126,7 +126,10 @@ fn try_image(rt: &impl Abort, heap: Global, image: &Image) -> Result<(), Fail> {
     let copy = given.clone()?;
     let answered = made(*kind, given.as_mut_slice(), &all[0..(*fuses).min(9)]);
     assert_eq!(rt; answered, *answer, "{len} bytes, {fuses} fuses");
-    assert!(rt; given == copy, "the image afterwards");
+    assert!(rt;
+        given == copy,
+        "{len} bytes, {fuses} fuses, the image afterwards"
+    );
     Ok(())
 }
 

@@ -1,4 +1,6 @@
 // Tests of the devices, as tables: what each call answers, and every byte of the image afterwards.
+#![tactic(auto)]
+
 #[cfg(test)]
 mod any_chip;
 #[cfg(test)]

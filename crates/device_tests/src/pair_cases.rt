@@ -17,77 +17,87 @@ pub(super) struct Joined(pub u8, pub u8, pub Answer, pub &'static [Step]);
 // Joins two chips, checks the answer, and takes the steps.
 fn join<P: Chip + Drop, Q: Chip + Drop>(
     rt: &impl Abort,
+    row: usize,
     first: P,
     second: Q,
     answer: Answer,
     steps: &[Step],
-) -> Result<(), Fail>
+)
     requires { (P.Chip.sound first) × (Q.Chip.sound second) }
 {
     match ChipPair::new(first, second) {
         Ok(mut pair) => {
-            assert_eq!(rt; Answer::Counted(pair.blocks()), answer);
-            check_steps(rt, &mut pair, steps)
+            assert_eq!(rt; Answer::Counted(pair.blocks()), answer, "row {row}");
+            check_steps(rt, row, &mut pair, steps);
         }
-        Err(large) => {
-            assert_eq!(rt; refused(large.fault), answer);
-            Ok(())
-        },
+        Err(large) => assert_eq!(rt; refused(large.fault), answer, "row {row}"),
     }
 }
 
 // Makes two image chips, and joins them.
 fn join_images<'a>(
     rt: &impl Abort,
+    row: usize,
     first: &'a mut [u8],
     second: &'a mut [u8],
     fuses: &'a [u32],
     others: &'a [u32],
     answer: Answer,
     steps: &[Step],
-) -> Result<(), Fail> {
-    match ImageChip::new(first, fuses) {
-        Ok(first) => match ImageChip::new(second, others) {
-            Ok(second) => join(rt, first, second, answer, steps),
-            Err(_) => Err(Fail::new("no second chip was made")),
-        },
-        Err(_) => Err(Fail::new("no first chip was made")),
-    }
+) {
+    let Ok(first) = ImageChip::new(first, fuses) else {
+        panic!(rt; "row {row}, no first chip was made");
+    };
+    let Ok(second) = ImageChip::new(second, others) else {
+        panic!(rt; "row {row}, no second chip was made");
+    };
+    join(rt, row, first, second, answer, steps);
 }
 
 // Joins two chips of one erase block each over the halves of an image, and takes the steps.
 fn take_steps<'a>(
     rt: &impl Abort,
+    row: usize,
     image: &'a mut [u8],
     fuses: &'a [u32],
     others: &'a [u32],
     steps: &[Step],
-) -> Result<(), Fail> {
-    if image.len() != TWO_BLOCKS {
-        return Err(Fail::new("the image has no two halves"));
-    }
+) {
+    assert_eq!(rt;
+        image.len(),
+        TWO_BLOCKS,
+        "row {row}, the image has no two halves"
+    );
     let (first, second) = image.split_at_mut(BLOCK);
-    join_images(rt, first, second, fuses, others, Answer::Counted(2), steps)
+    join_images(
+        rt,
+        row,
+        first,
+        second,
+        fuses,
+        others,
+        Answer::Counted(2),
+        steps,
+    );
 }
 
-// Tries a case over a pair.
-pub(super) fn try_pair(rt: &impl Abort, case: &Case) -> Result<(), Fail> {
+// Tries the case of a row over a pair.
+pub(super) fn try_pair(rt: &impl Abort, row: usize, case: &Case) {
     let mut image = [0; TWO_BLOCKS];
     lay(&mut image, case.before);
-    take_steps(rt, &mut image, case.fuses, case.others, case.steps)?;
-    check_image(rt, &image, case);
-    Ok(())
+    take_steps(rt, row, &mut image, case.fuses, case.others, case.steps);
+    check_image(rt, row, &image, case);
 }
 
-// Tries a case over an image chip and over a pair.
-pub(super) fn try_both(rt: &impl Abort, case: &Case) -> Result<(), Fail> {
-    try_chip(rt, case)?;
-    try_pair(rt, case)
+// Tries the case of a row over an image chip and over a pair.
+pub(super) fn try_both(rt: &impl Abort, row: usize, case: &Case) {
+    try_chip(rt, row, case);
+    try_pair(rt, row, case);
 }
 
-// Tries a row over both.
-pub(super) fn try_row(rt: &impl Abort, row: &Row) -> Result<(), Fail> {
-    let Row(before, setup, call, answer, after) = row;
+// Tries what a row says of one call and one page over both.
+pub(super) fn try_row(rt: &impl Abort, row: usize, trial: &Row) {
+    let Row(before, setup, call, answer, after) = trial;
     let steps = [
         Step(Call::PowerOn, Answer::Done),
         Step(*setup, Answer::Done),
@@ -95,6 +105,7 @@ pub(super) fn try_row(rt: &impl Abort, row: &Row) -> Result<(), Fail> {
     ];
     try_both(
         rt,
+        row,
         &Case {
             fuses: &[],
             others: &[],
@@ -102,21 +113,28 @@ pub(super) fn try_row(rt: &impl Abort, row: &Row) -> Result<(), Fail> {
             steps: &steps,
             after: &[*after],
         },
-    )
+    );
 }
 
-// Tries to join two chips.
-pub(super) fn try_joined(rt: &impl Abort, heap: Global, joined: &Joined) -> Result<(), Fail> {
+// Tries to join the two chips of a row.
+pub(super) fn try_joined(
+    rt: &impl Abort,
+    heap: Global,
+    row: usize,
+    joined: &Joined,
+) -> Result<(), Fail> {
     let Joined(blocks, others, answer, steps) = joined;
     let mut first = vec![in heap; 0; BLOCK * *blocks as usize]?;
     let mut second = vec![in heap; 0; BLOCK * *others as usize]?;
     join_images(
         rt,
+        row,
         first.as_mut_slice(),
         second.as_mut_slice(),
         &[],
         &[],
         *answer,
         steps,
-    )
+    );
+    Ok(())
 }

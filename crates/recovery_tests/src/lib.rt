@@ -1,4 +1,6 @@
 // Tests of recovery, as tables: the frames of a chip's image, and what recovery answers over it.
+#![tactic(auto)]
+
 #[cfg(test)]
 mod cases;
 #[cfg(test)]

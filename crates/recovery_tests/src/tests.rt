@@ -12,8 +12,8 @@ use std::test::Fail;
 
 // Tries cases in turn.
 fn try_cases(rt: &impl Abort, heap: Global, cases: &[Case]) -> Result<(), Fail> {
-    for (k, case) in cases.iter().enumerate() {
-        try_case(rt, heap, case).note(format_args!("row {k}"))?;
+    for (row, case) in cases.iter().enumerate() {
+        try_case(rt, heap, row, case)?;
     }
     Ok(())
 }
@@ -50,16 +50,16 @@ fn sizes(rt: HostRuntime) -> Result<(), Fail> {
 
 #[test]
 fn full_tables_and_logs(rt: HostRuntime) -> Result<(), Fail> {
-    for (k, size) in WRITTEN.iter().enumerate() {
-        try_size(&rt, rt.alloc(), size).note(format_args!("row {k}"))?;
+    for (row, size) in WRITTEN.iter().enumerate() {
+        try_size(&rt, rt.alloc(), row, size)?;
     }
     Ok(())
 }
 
 #[test]
 fn chips_that_are_off(rt: HostRuntime) -> Result<(), Fail> {
-    for (k, off) in OFF.iter().enumerate() {
-        try_off(&rt, rt.alloc(), off).note(format_args!("row {k}"))?;
+    for (row, off) in OFF.iter().enumerate() {
+        try_off(&rt, rt.alloc(), row, off)?;
     }
     Ok(())
 }

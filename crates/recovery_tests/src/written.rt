@@ -77,6 +77,7 @@ fn fill_entries(table: &mut [Entry], marked: &mut [Marked]) {
 fn try_full_table(
     rt: &impl Abort,
     heap: Global,
+    row: usize,
     geometry: Geometry,
     area: Area,
 ) -> Result<(), Fail> {
@@ -89,7 +90,9 @@ fn try_full_table(
     lay_checkpoint(image.as_mut_slice(), geometry, area, 2, &table[0..count]);
     lay_data_pages(image.as_mut_slice(), &table[0..count]);
     let answer = Answer::Found(area, 2, 0, &marked[0..count]);
-    check_image(rt, image.as_mut_slice(), pages, answer)
+    let at = format_args!("row {row}, full table, area {area:?}");
+    check_image(rt, &at, image.as_mut_slice(), pages, answer);
+    Ok(())
 }
 
 // Record r of log page j: 32 puts, then 32 drops of the same addresses; on the last page 32 marks instead.
@@ -164,6 +167,7 @@ fn left_by<'a>(area: Area, pages: u8, j: u8, state: u8, marked: &'a [Marked]) ->
 fn try_log(
     rt: &impl Abort,
     heap: Global,
+    row: usize,
     geometry: Geometry,
     area: Area,
     first: u32,
@@ -187,21 +191,24 @@ fn try_log(
     lay_data_pages(image.as_mut_slice(), &left);
     set_state(image.as_mut_slice(), geometry.log_page(area, j), state);
     let answer = left_by(area, geometry.log_pages(), j, state, &marked);
-    check_image(rt, image.as_mut_slice(), pages, answer)
+    let at = format_args!("row {row}, full log, area {area:?}, log page {j} in state {state}");
+    check_image(rt, &at, image.as_mut_slice(), pages, answer);
+    Ok(())
 }
 
 // A full log, and each of its pages blank and torn.
 fn try_logs(
     rt: &impl Abort,
     heap: Global,
+    row: usize,
     geometry: Geometry,
     area: Area,
     first: u32,
 ) -> Result<(), Fail> {
-    try_log(rt, heap, geometry, area, first, 0, 1)?;
+    try_log(rt, heap, row, geometry, area, first, 0, 1)?;
     for j in 0..geometry.log_pages() {
-        try_log(rt, heap, geometry, area, first, j, 0).note(format_args!("log page {j} blank"))?;
-        try_log(rt, heap, geometry, area, first, j, 2).note(format_args!("log page {j} torn"))?;
+        try_log(rt, heap, row, geometry, area, first, j, 0)?;
+        try_log(rt, heap, row, geometry, area, first, j, 2)?;
     }
     Ok(())
 }
@@ -212,21 +219,25 @@ pub(super) struct Size(pub u32, pub u8, pub u32);
 pub(super) const WRITTEN: &[Size] = &[Size(12, 30, 2900), Size(17, 29, 2800), Size(64, 24, 2300)];
 
 // Tries both areas.
-fn try_areas(rt: &impl Abort, heap: Global, geometry: Geometry, first: u32) -> Result<(), Fail> {
-    try_full_table(rt, heap, geometry, Area::One).note("full table, area one")?;
-    try_full_table(rt, heap, geometry, Area::Two).note("full table, area two")?;
-    try_logs(rt, heap, geometry, Area::One, first).note("full log, area one")?;
-    try_logs(rt, heap, geometry, Area::Two, first).note("full log, area two")
+fn try_areas(
+    rt: &impl Abort,
+    heap: Global,
+    row: usize,
+    geometry: Geometry,
+    first: u32,
+) -> Result<(), Fail> {
+    try_full_table(rt, heap, row, geometry, Area::One)?;
+    try_full_table(rt, heap, row, geometry, Area::Two)?;
+    try_logs(rt, heap, row, geometry, Area::One, first)?;
+    try_logs(rt, heap, row, geometry, Area::Two, first)
 }
 
-// Tries a size.
-pub(super) fn try_size(rt: &impl Abort, heap: Global, size: &Size) -> Result<(), Fail> {
+// Tries the size of a row.
+pub(super) fn try_size(rt: &impl Abort, heap: Global, row: usize, size: &Size) -> Result<(), Fail> {
     let Size(blocks, logs, first) = size;
-    match Geometry::new(*blocks) {
-        Ok(geometry) => {
-            assert_eq!(rt; geometry.log_pages(), *logs);
-            try_areas(rt, heap, geometry, *first)
-        }
-        Err(_) => Err(Fail::new("no such chip")),
-    }
+    let Ok(geometry) = Geometry::new(*blocks) else {
+        panic!(rt; "row {row}, no such chip");
+    };
+    assert_eq!(rt; geometry.log_pages(), *logs, "row {row}, log pages");
+    try_areas(rt, heap, row, geometry, *first)
 }
