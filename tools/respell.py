@@ -5,7 +5,8 @@ usage: python3 tools/respell.py [--list]     at the top of a repository that por
 
 A name that specs/ or proofs/ define and that has a dash is respelled wherever it stands: `block-of` is `block_of`, `Proper-entry` is `ProperEntry`.
 Names that Rattle makes (goals, steps) and names of its library keep theirs. Functions, strings and comments keep theirs too, but for a name
-between backticks. With --list it only says what it would do, and where two names would fall together.
+between backticks. The library's `AllByRecursion` goes by its own name, where port.py brought it in as `All`, which is another word today.
+With --list it only says what it would do, and where two names would fall together.
 """
 
 import os
@@ -110,6 +111,14 @@ def turn_rt(text, names):
     return "\n".join(out)
 
 
+def own_word(text):
+    """AllByRecursion under its own name, in a file that brought it in as All."""
+    if "AllByRecursion as All" not in text:
+        return text
+    text = text.replace("AllByRecursion as All", "AllByRecursion")
+    return re.sub(rf"(?<![\w'.-])All(?![\w'-])", "AllByRecursion", text)
+
+
 def main(argv):
     root = os.getcwd()
     found = defined(root)
@@ -135,7 +144,7 @@ def main(argv):
     for ends, turn in ((".antt", turn_antt), (".rt", turn_rt), (".edit", turn_tokens)):
         for path in files(os.path.join(root, "crates"), ends):
             text = read(path)
-            made = turn(text, names)
+            made = own_word(turn(text, names))
             if made != text:
                 with open(path, "w", encoding="utf-8") as f:
                     f.write(made)

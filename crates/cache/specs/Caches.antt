@@ -1,5 +1,5 @@
 -- What a cache keeps true, and what its calls answer and leave, over any chip by what it means.
-use Rattle.std.specs.Prelude.{◌≡◌, ℕ, Bool, true, false, cond, ◌⊎◌, List, length, Some, None, Ok, Err, Option, Result}
+use Rattle.std.specs.Prelude.{◌≡◌, ℕ, Bool, ◌⊎◌, List, length, Some, None, Ok, Err, Option, Result}
 use Rattle.device.specs.declared.faults.Fault.{Fault}
 use Rattle.device.specs.Chips.{Pages}
 use Rattle.layout.specs.declared.entries.Mark.{Mark}
@@ -9,7 +9,6 @@ use Rattle.table.specs.Tables.{Table, mark_of}
 use Rattle.table.specs.Views.{marks_from}
 use Rattle.journal.specs.Notes.{Noted, noted, pages_of}
 use Rattle.journal.specs.Steps.{Fails}
-use Rattle.space.specs.Worlds.{World, world}
 use Rattle.engine.specs.declared.powering.Memory.{Memory}
 use Rattle.engine.specs.Works.{Holding, Writes, Evicts, Cleans, Flushes, Fetches, Woken, StaysDark, Begun}
 use Rattle.cache.specs.declared.bare.BareCache.{BareCache}

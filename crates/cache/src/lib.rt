@@ -1,4 +1,6 @@
 // A cache on any chip: bare, and working once it is formed or adopted.
+#![tactic(auto)]
+
 mod bare;
 mod checks;
 mod service;

@@ -1,11 +1,10 @@
 -- Loops that write state bytes, one frame after another.
-use Rattle.std.proofs.Common.{◌≡◌, ℕ, zero, suc, ◌+◌, ◌*◌, ◌/◌, ◌%◌, ◌<◌, ◌≤◌, Bool, ◌&&◌, ◌||◌, eqb, ◌⊎◌, List, length, get_or, set, sym, refl, ap, ◌∙◌, ap₂, inl, inr, ⊎_elim, add-one, arith}
+use Rattle.std.proofs.Common.{◌≡◌, ℕ, zero, suc, ◌+◌, ◌*◌, ◌/◌, ◌%◌, ◌<◌, ◌≤◌, Bool, ◌&&◌, ◌||◌, eqb, List, length, get_or, set, refl, ◌∙◌, ⊎_elim, add-one, arith}
 use Rattle.std.proofs.lemmas.List.{get_or-set_other, get_or-set_same}
 use Rattle.std.proofs.lemmas.Bool.{cases_eq}
 use Rattle.device.specs.Cells.{Cell, is_unsettled}
 use Rattle.device.specs.Chips.{State, block_of, unsettled_in}
-use Rattle.device.specs.Chips.State.{held}
-use Rattle.chip_frames.specs.Frames.{state_at, note_at, data_at, decode, page_of, unsettled_state, Restated}
+use Rattle.chip_frames.specs.Frames.{state_at, decode, unsettled_state, Restated}
 
 -- the frames below p are restated, and the others not yet
 pub record RestatedBelow (xs : List ℕ) (f : ℕ → ℕ) (p : ℕ) (ys : List ℕ) : Type 0 where

@@ -1,6 +1,6 @@
 -- What the bytes of a chip image mean. A page has a frame of 520 bytes: state, fate, note (kind, count, address), data.
 use Rattle.std.specs.Prelude.{◌≡◌, ℕ, zero, suc, ◌+◌, ◌*◌, ◌/◌, ◌%◌, ◌<◌, ◌≤◌, Bool, true, false, cond, ◌⊎◌, List, length, take, drop, ◌==◌, ◌≢◌, nat_lt, slice_index}
-use Rattle.device.specs.Cells.{Cell, Meaning}
+use Rattle.device.specs.Cells.{Cell}
 use Rattle.device.specs.Cells.Cell.{settled, unsettled}
 use Rattle.device.specs.Chips.{Note, State, Pages, block_of}
 use Rattle.device.specs.Chips.State.{blank, torn, held}

@@ -1,4 +1,6 @@
 // The frames of a chip image: what each call of an image chip does to their bytes.
+#![tactic(auto)]
+
 ghost use Rattle.std.specs.Prelude.{◌≡◌, ℕ, ◌+◌, ◌*◌, ◌/◌, ◌<◌, ◌≤◌, length, if◌then◌else◌, MatchOption, nat_eq};
 ghost use Rattle.device.specs.Chips.{block_of, unsettled_in};
 ghost use Rattle.chip_frames.specs.Frames.{blocks_in, note_at, data_at, page_of, settled_state, erased_state, cut_state, by_fate, unsettled_state, Restated, settling, erasing, cutting, Framed, Listed, FirstBad};

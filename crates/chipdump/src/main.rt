@@ -1,4 +1,6 @@
 // Says what a chip image on standard input holds: the mapping table that recovery finds on it, or why it finds none.
+#![tactic(auto)]
+
 mod dump;
 mod finding;
 mod found_lines;

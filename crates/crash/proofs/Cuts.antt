@@ -1,11 +1,10 @@
 -- Each step of a commit, a checkpoint and a reclaim keeps the table that the chip holds, or leaves the old one or the new one.
-use Rattle.std.proofs.Common.{◌≡◌, ℕ, zero, suc, ◌+◌, ◌-◌, ◌*◌, ◌/◌, ◌%◌, ◌<◌, ◌≤◌, Bool, true, false, cond, eqb, ◌⊎◌, List, length, take, Some, None, Ok, Option, Result, sym, refl, ap, ◌∙◌, subst, inl, inr, ⊎_elim, arith}
+use Rattle.std.proofs.Common.{◌≡◌, ℕ, zero, suc, ◌+◌, ◌*◌, ◌%◌, ◌<◌, ◌≤◌, true, false, ◌⊎◌, List, length, Some, None, Ok, Result, sym, refl, ap, ◌∙◌, subst, inl, inr, ⊎_elim, arith}
 use Rattle.std.proofs.lemmas.List.{take_all}
-use Rattle.std.proofs.lemmas.Bool.{eq-eqb, ne_eqb, cases_eq, true≢false}
-use Rattle.std.specs.List.{AllByRecursion as All}
+use Rattle.std.proofs.lemmas.Bool.{cases_eq, true≢false}
 use Rattle.device.specs.declared.faults.Fault.{Fault}
-use Rattle.device.specs.Cells.{Cell, reads, is_unsettled, Leaves}
-use Rattle.device.specs.Cells.Cell.{settled, unsettled}
+use Rattle.device.specs.Cells.{reads, Leaves}
+use Rattle.device.specs.Cells.Cell.{settled}
 use Rattle.device.specs.Chips.{Note, State, Pages, Tears, block_of, data_page_at, Syncs, Programs, program_refusal, programmed, Erases, erase_refusal, erased_block}
 use Rattle.device.specs.Chips.State.{blank, torn, held}
 use Rattle.device.proofs.Chipwise.{chip_cuts, chip_reads, program_blank, erase_free}
@@ -14,11 +13,10 @@ use Rattle.device.specs.Calls.{wanted}
 use Rattle.layout.specs.declared.areas.Area.{Area}
 use Rattle.layout.specs.declared.areas.Area.TheVariants.{One, Two}
 use Rattle.layout.specs.declared.records.Record.{Record}
-use Rattle.layout.specs.Entries.{ProperEntry}
 use Rattle.layout.specs.Geometry.{first_page, other_area, entry_pages, log_pages, entry_page_at, trailer_at, log_page_at}
-use Rattle.layout.specs.Pages.{entry_note, entry_data, trailer_note, trailer_data, log_note, log_data, ProperLog, data_note}
-use Rattle.table.specs.Tables.{Table, entry_at, marked_at, replayed, ProperTable}
-use Rattle.recovery.specs.Recovering.{Found, Counts, Numbered, Active, Entered, LogStep, Logged, IsData, Backed, Recovered}
+use Rattle.layout.specs.Pages.{entry_note, entry_data, trailer_note, trailer_data, log_note, log_data, ProperLog}
+use Rattle.table.specs.Tables.{Table, marked_at, replayed, ProperTable}
+use Rattle.recovery.specs.Recovering.{Counts, Numbered, Active, Entered, LogStep, Logged, Backed}
 use Rattle.crash.specs.Crash.{Finds, Holds, HoldsEither, SettledBacked, BlankFrom, SettledEntries, SafeSteps}
 use Rattle.crash.proofs.Ways.{settled_way, wanted_cases, before, before_here, before_elsewhere, before_leaves, page_ways, others_settled, unerased, unerased_elsewhere, unerased_leaves, block_ways}
 

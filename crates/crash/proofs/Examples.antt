@@ -1,30 +1,26 @@
 -- A settled checkpoint is held, and the small chips on which an order loses a block.
-use Rattle.std.proofs.Common.{◌≡◌, ℕ, zero, suc, ◌+◌, ◌<◌, ◌≤◌, Bool, true, false, cond, eqb, ◌⊎◌, List, [], ◌∷◌, map, length, get_or, set, replicate, Some, None, Ok, sym, refl, ap, ◌∙◌, subst, inl, inr, arith}
+use Rattle.std.proofs.Common.{◌≡◌, ℕ, zero, suc, true, false, List, [], ◌∷◌, map, length, replicate, Ok, sym, refl, ap, ◌∙◌, subst, inl, arith}
 use Rattle.std.proofs.lemmas.Bool.{ne_eqb, true≢false}
-use Rattle.std.specs.List.{AllByRecursion as All}
-use Rattle.device.specs.Cells.{Cell, Leaves}
+use Rattle.std.specs.List.{AllByRecursion}
+use Rattle.device.specs.Cells.{Cell}
 use Rattle.device.specs.Cells.Cell.{settled, unsettled}
-use Rattle.device.specs.Chips.{State, Pages, Tears, block_of, data_page_at, program_refusal, Erases, erase_refusal, erased_block, unsettled_in}
+use Rattle.device.specs.Chips.{State, Pages, data_page_at, Erases, erased_block, unsettled_in}
 use Rattle.device.specs.Chips.State.{blank, held}
-use Rattle.layout.specs.declared.areas.Area.{Area}
 use Rattle.layout.specs.declared.areas.Area.TheVariants.{One}
 use Rattle.layout.specs.declared.entries.Entry.{Entry}
 use Rattle.layout.specs.Entries.{ProperEntry}
-use Rattle.layout.specs.Geometry.{other_area, entry_pages, log_pages, entry_page_at, trailer_at, log_page_at}
-use Rattle.layout.specs.Laws.{entry_page, trailer_page}
-use Rattle.layout.specs.Pages.{cells_page, log_data, data_note}
-use Rattle.table.specs.Tables.{Table, empty, empty_table, entry_at, marked_at, holds, emptied, replayed, ProperTable}
-use Rattle.recovery.specs.Recovering.{Counts}
+use Rattle.layout.specs.Geometry.{entry_page_at, trailer_at, log_page_at}
+use Rattle.layout.specs.Pages.{cells_page, data_note}
+use Rattle.table.specs.Tables.{Table, empty, empty_table, entry_at, marked_at, holds, emptied, ProperTable}
 use Rattle.crash.specs.Crash.{Holds, SettledBacked, BlankFrom, SettledEntries}
 use Rattle.crash.specs.Orders.{put_seven}
 use Rattle.crash.specs.Examples.{small_chip, with_seven, OneSyncExample, EraseFirstExample}
-use Rattle.crash.proofs.Ways.{settled_way}
 use Rattle.crash.proofs.Cuts.{settled_holds}
 use Rattle.crash.proofs.Orders.{one_sync_loses, erase_first_loses, seven_proper}
 
 -- entries without marks
 abbrev Nothing : List Entry → Type 0
-Nothing ts = All (λ e. e ≡ empty) ts
+Nothing ts = AllByRecursion (λ e. e ≡ empty) ts
 
 nothing_here : (n : ℕ) → Nothing (replicate n empty)
 nothing_here zero = tt
@@ -39,7 +35,7 @@ nothing_at [] i h = refl
 nothing_at (t ∷ ts) zero (e, h) = e
 nothing_at (t ∷ ts) (suc i) (e, h) = nothing_at ts i h
 
-nothing_proper : (ts : List Entry) → Nothing ts → All ProperEntry ts
+nothing_proper : (ts : List Entry) → Nothing ts → AllByRecursion ProperEntry ts
 nothing_proper [] h = tt
 nothing_proper (t ∷ ts) (e, h) = (subst ProperEntry (sym e) refl, nothing_proper ts h)
 

@@ -1,9 +1,9 @@
 -- The orders of work that lose a block: for each, the way of a power cut, or the log, in which it does.
-use Rattle.std.proofs.Common.{◌≡◌, ℕ, zero, suc, ◌+◌, ◌-◌, ◌*◌, ◌/◌, ◌<◌, ◌≤◌, Bool, true, false, cond, eqb, ◌⊎◌, List, [], ◌∷◌, length, Some, None, Ok, sym, refl, ap, ◌∙◌, subst, inl, inr, ⊎_elim, arith, lit≤}
+use Rattle.std.proofs.Common.{◌≡◌, ℕ, suc, ◌<◌, ◌≤◌, true, false, cond, eqb, ◌⊎◌, List, Some, sym, refl, ap, ◌∙◌, subst, inl, inr, ⊎_elim, arith}
 use Rattle.std.proofs.lemmas.Bool.{eq-eqb, ne_eqb, cases_eq, cases_order, true≢false}
-use Rattle.device.specs.Cells.{Cell, Meaning, reads, Ends, Leaves}
-use Rattle.device.specs.Cells.Cell.{settled, unsettled}
-use Rattle.device.specs.Chips.{Note, State, Pages, Tears, block_of, data_page_at, Programs, program_refusal, programmed, Erases}
+use Rattle.device.specs.Cells.{reads, Leaves}
+use Rattle.device.specs.Cells.Cell.{unsettled}
+use Rattle.device.specs.Chips.{Note, State, Pages, Tears, block_of, data_page_at, programmed}
 use Rattle.device.specs.Chips.State.{blank, torn, held}
 use Rattle.device.proofs.Chipwise.{chip_reads}
 use Rattle.device.proofs.Settling.{ends_reads}
@@ -11,13 +11,13 @@ use Rattle.layout.specs.declared.areas.Area.{Area}
 use Rattle.layout.specs.declared.areas.Area.TheVariants.{One}
 use Rattle.layout.specs.declared.entries.Mark.TheVariants.{Dirty}
 use Rattle.layout.specs.declared.records.Record.{Record}
-use Rattle.layout.specs.Geometry.{first_page, entry_pages, log_pages, entry_page_at, trailer_at, log_page_at}
+use Rattle.layout.specs.Geometry.{entry_pages, log_pages, entry_page_at, log_page_at}
 use Rattle.layout.specs.Pages.{log_note, log_data, ProperLog}
 use Rattle.table.specs.Tables.{Table, marked_at, replayed, empty_table, entered}
 use Rattle.table.specs.Tables as tables
 use Rattle.recovery.specs.Recovering.{Entered, LogStep, Logged}
 use Rattle.recovery.proofs.Stages.{base_one, logged_one}
-use Rattle.crash.specs.Crash.{Finds, Holds, HoldsEither, BlankFrom}
+use Rattle.crash.specs.Crash.{Finds, Holds, BlankFrom}
 use Rattle.crash.specs.Orders.{OneSyncLoses, EraseFirstLoses, LoggedStopping, TornInside, StoppingLoses, put_seven, torn_log, StoppingLosesSeven}
 use Rattle.crash.proofs.Ways.{settled_way}
 use Rattle.crash.proofs.Cuts.{first_small, logged_same, logged_down, logged_up}

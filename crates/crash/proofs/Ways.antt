@@ -1,8 +1,8 @@
 -- The ways in which a power cut may leave a chip, around one program or one erase.
-use Rattle.std.proofs.Common.{◌≡◌, ℕ, ◌*◌, Bool, true, false, cond, eqb, ◌⊎◌, List, length, Some, None, Option, sym, refl, ap, ◌∙◌, subst, inl, inr, ⊎_elim, arith}
+use Rattle.std.proofs.Common.{◌≡◌, ℕ, true, false, cond, eqb, ◌⊎◌, List, Some, None, Option, refl, ◌∙◌, subst, inl, inr, ⊎_elim, arith}
 use Rattle.std.proofs.lemmas.Bool.{eq-eqb, ne_eqb, cases_eq, cases_Bool}
 use Rattle.device.specs.declared.faults.Fault.{Fault}
-use Rattle.device.specs.Cells.{Cell, Meaning, reads, is_unsettled, Ends, Leaves}
+use Rattle.device.specs.Cells.{Cell, reads, is_unsettled, Ends, Leaves}
 use Rattle.device.specs.Cells.Cell.{settled, unsettled}
 use Rattle.device.specs.Calls.{wanted}
 use Rattle.device.specs.Chips.{Note, State, Pages, Tears, block_of, programmed, erased, erased_block}

@@ -1,16 +1,16 @@
 -- What a power cut can do to the mapping table on a chip: a chip holds a table if recovery finds it whichever way a cut goes.
-use Rattle.std.specs.Prelude.{◌≡◌, ℕ, suc, ◌+◌, ◌%◌, ◌<◌, ◌≤◌, Bool, true, false, ◌⊎◌, List, length, Some, None, Ok, Err, Option, Result}
+use Rattle.std.specs.Prelude.{◌≡◌, ℕ, ◌+◌, ◌%◌, ◌<◌, ◌≤◌, true, false, ◌⊎◌, List, length, Some, Ok, Result}
 use Rattle.device.specs.declared.faults.Fault.{Fault}
-use Rattle.device.specs.Cells.{Cell, Leaves}
-use Rattle.device.specs.Cells.Cell.{settled, unsettled}
+use Rattle.device.specs.Cells.{Leaves}
+use Rattle.device.specs.Cells.Cell.{settled}
 use Rattle.device.specs.Chips.{Note, State, Pages, Tears, block_of, data_page_at, Reads, Programs, Erases, Syncs, Powers}
-use Rattle.device.specs.Chips.State.{blank, torn, held}
+use Rattle.device.specs.Chips.State.{blank, held}
 use Rattle.layout.specs.declared.areas.Area.{Area}
 use Rattle.layout.specs.declared.records.Record.{Record}
 use Rattle.layout.specs.Geometry.{first_page, other_area, entry_pages, log_pages, entry_page_at, trailer_at, log_page_at}
 use Rattle.layout.specs.Pages.{entry_note, entry_data, trailer_note, trailer_data, log_note, log_data, ProperLog, data_note}
 use Rattle.table.specs.Tables.{Table, entry_at, marked_at, replayed, ProperTable}
-use Rattle.recovery.specs.Recovering.{Found, Recovered, IsData}
+use Rattle.recovery.specs.Recovering.{Recovered}
 
 -- recovery finds this table, in this area under this number
 abbrev pub Finds : ℕ → (ℕ → State) → Area → ℕ → Table → Type 0

@@ -1,7 +1,7 @@
 -- Orders of work that lose a block, and what goes wrong in each: why a commit syncs the data first, why a reclaim commits before it erases, and why the log is
 -- read past a torn page.
-use Rattle.std.specs.Prelude.{◌≡◌, ℕ, suc, ◌+◌, ◌<◌, ◌≤◌, Bool, true, false, cond, ◌⊎◌, List, [], ◌∷◌, length, Some, None, Ok, Option, ◌==◌, ◌≢◌}
-use Rattle.device.specs.Cells.Cell.{settled, unsettled}
+use Rattle.std.specs.Prelude.{◌≡◌, ℕ, suc, ◌<◌, ◌≤◌, true, false, cond, ◌⊎◌, List, [], ◌∷◌, length, Some, None, Ok, ◌==◌, ◌≢◌}
+use Rattle.device.specs.Cells.Cell.{unsettled}
 use Rattle.device.specs.Chips.{State, Pages, block_of, data_page_at, Programs, program_refusal, Erases}
 use Rattle.device.specs.Chips.State.{blank, torn, held}
 use Rattle.layout.specs.declared.areas.Area.{Area}

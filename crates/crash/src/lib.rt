@@ -1,4 +1,6 @@
 // What a power cut can do to the mapping table on a chip, step by step: pure laws, each on the contract of a function.
+#![tactic(auto)]
+
 ghost use Rattle.std.specs.Prelude.{ℕ, ◌≤◌};
 ghost use Rattle.crash.specs.Crash.{SafeSteps};
 ghost use Rattle.crash.specs.Examples.{OneSyncExample, EraseFirstExample};

@@ -1,15 +1,14 @@
 -- The laws of a chip's calls.
-use Rattle.std.proofs.Common.{◌≡◌, ℕ, zero, suc, ◌*◌, ◌/◌, ◌<◌, ◌≤◌, Bool, true, false, cond, ◌&&◌, ◌||◌, eqb, ltb, ◌⊎◌, List, length, Some, None, Ok, Err, Option, Result, sym, refl, ap, ◌∙◌, subst, inl, inr, ⊎_elim, arith}
-use Rattle.std.proofs.lemmas.Bool.{eq-eqb, ne_eqb, cases_eq, cases_Bool, cases_lt, ltb-true, or_parts, and_from, true≢false}
-use Rattle.device.specs.declared.faults.Fault.{Fault}
+use Rattle.std.proofs.Common.{◌≡◌, ℕ, zero, suc, ◌<◌, Bool, true, false, cond, ◌&&◌, eqb, ltb, List, length, Some, None, sym, refl, ap, ◌∙◌, subst, inl, ⊎_elim, arith}
+use Rattle.std.proofs.lemmas.Bool.{eq-eqb, ne_eqb, cases_eq, cases_Bool, ltb-true, or_parts, and_from, true≢false}
 use Rattle.device.specs.declared.faults.Refusal.TheVariants.{PowerOff, Unsettled}
-use Rattle.device.specs.Cells.{Cell, Meaning, reads, is_unsettled, Ends, Leaves}
+use Rattle.device.specs.Cells.{Cell, reads, is_unsettled, Ends}
 use Rattle.device.specs.Cells.Cell.{settled, unsettled}
 use Rattle.device.specs.Faults.{chip_fault}
-use Rattle.device.specs.Calls.{wanted, in_order}
-use Rattle.device.specs.Chips.{Note, State, Pages, Tears, page_count, block_of, Reads, Programs, program_refusal, program_at, programmed, Erases, erase_refusal, erased, erased_block, unsettled_in, Syncs, synced, Powers}
+use Rattle.device.specs.Calls.{wanted}
+use Rattle.device.specs.Chips.{Note, State, Pages, Tears, page_count, block_of, program_refusal, program_at, programmed, erase_refusal, erased, erased_block, unsettled_in, synced}
 use Rattle.device.specs.Chips.State.{blank, torn, held}
-use Rattle.device.specs.Laws.{ChipReads, ChipCuts, ReadsSame}
+use Rattle.device.specs.Laws.{ChipReads, ChipCuts}
 use Rattle.device.proofs.Settling.{in_order_met, early_reads, call_cuts, served_ways, halted_ways, same_ways, sync_ways, sync_halted_ways, power_ways, power_halted_ways, wanted_none, wanted_some, call_reads_same}
 
 program_at_blank : (p : ℕ) (c : Cell State) → program_at p c ≡ None → c ≡ settled blank

@@ -1,18 +1,16 @@
 -- The laws of a disk's calls.
-use Rattle.std.proofs.Common.{◌≡◌, ℕ, Bool, true, false, cond, eqb, ltb, ◌⊎◌, List, length, Some, None, Ok, Err, Option, Result, sym, refl, ap, ◌∙◌, subst, inl, inr, ⊎_elim, arith}
+use Rattle.std.proofs.Common.{◌≡◌, ℕ, Bool, true, false, cond, eqb, ltb, List, length, Some, None, refl, ap, ◌∙◌, subst, inl, inr, ⊎_elim, arith}
 use Rattle.std.proofs.lemmas.Bool.{eq-eqb, ne_eqb, cases_eq, true≢false}
-use Rattle.device.specs.declared.faults.Fault.{Fault}
 use Rattle.device.specs.declared.faults.Layer.{Layer}
 use Rattle.device.specs.declared.faults.Refusal.{Refusal}
 use Rattle.device.specs.declared.faults.Refusal.TheVariants.{Unsettled}
-use Rattle.device.specs.Cells.{Cell, Meaning, reads, is_unsettled, Ends, Leaves}
+use Rattle.device.specs.Cells.{Cell, reads, is_unsettled, Ends}
 use Rattle.device.specs.Cells.Cell.{settled, unsettled}
 use Rattle.device.specs.Faults.{Where, disk_fault, off_fault}
-use Rattle.device.specs.Calls.{wanted, in_order, Halted}
-use Rattle.device.specs.Chips.{synced}
-use Rattle.device.specs.Disks.{Blocks, Never, BlockWrites, block_write_refusal, written, WriteHalted}
+use Rattle.device.specs.Calls.{wanted}
+use Rattle.device.specs.Disks.{Blocks, Never, block_write_refusal, written, WriteHalted}
 use Rattle.device.specs.Laws.{DiskCuts}
-use Rattle.device.proofs.Settling.{in_order_met, ends_reads, call_cuts, served_ways, halted_ways, same_ways, sync_ways, sync_halted_ways, power_ways, power_halted_ways, wanted_none, wanted_some}
+use Rattle.device.proofs.Settling.{in_order_met, call_cuts, served_ways, halted_ways, same_ways, sync_ways, sync_halted_ways, power_ways, power_halted_ways, wanted_none, wanted_some}
 
 settled_is : {S : Type 0} (c : Cell S) → is_unsettled c ≡ false → c ≡ settled (reads c)
 settled_is (settled s) h = refl

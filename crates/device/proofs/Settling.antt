@@ -1,8 +1,8 @@
 -- What early settling and power cuts leave of a cell, over any states, and what that says of a whole call.
-use Rattle.std.proofs.Common.{◌≡◌, ℕ, Bool, true, false, cond, ◌⊎◌, Some, None, Ok, Err, Option, Result, sym, refl, ap, ◌∙◌, subst, inl, inr, arith}
+use Rattle.std.proofs.Common.{◌≡◌, ℕ, Bool, true, false, ◌⊎◌, Some, None, Ok, Err, Option, Result, sym, refl, ap, ◌∙◌, subst, inl, inr, arith}
 use Rattle.device.specs.declared.faults.Fault.{Fault}
 use Rattle.device.specs.declared.faults.Refusal.{Refusal}
-use Rattle.device.specs.Cells.{Cell, Meaning, reads, Early, Ends, Cut, Leaves, Becomes}
+use Rattle.device.specs.Cells.{Cell, Meaning, reads, Early, Ends, Cut, Leaves}
 use Rattle.device.specs.Cells.Cell.{settled, unsettled}
 use Rattle.device.specs.Calls.{Call, Served, Halted, wanted, in_order}
 

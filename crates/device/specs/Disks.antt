@@ -1,5 +1,5 @@
 -- What a disk means, and what each of its calls may do.
-use Rattle.std.specs.Prelude.{◌≡◌, ℕ, Bool, true, false, cond, ◌⊎◌, List, length, Some, None, Option, Result, ◌==◌, nat_lt}
+use Rattle.std.specs.Prelude.{◌≡◌, ℕ, cond, ◌⊎◌, List, length, Some, None, Option, Result, ◌==◌, nat_lt}
 use Rattle.device.specs.declared.faults.Fault.{Fault}
 use Rattle.device.specs.declared.faults.Layer.{Layer}
 use Rattle.device.specs.declared.faults.Refusal.{Refusal}

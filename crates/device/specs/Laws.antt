@@ -3,7 +3,7 @@ use Rattle.std.specs.Prelude.{◌≡◌, ℕ, List, length, Ok, Result, ◌≢�
 use Rattle.device.specs.declared.faults.Fault.{Fault}
 use Rattle.device.specs.declared.faults.Layer.{Layer}
 use Rattle.device.specs.declared.faults.Refusal.{Refusal}
-use Rattle.device.specs.Cells.{Cell, Meaning, reads, Leaves}
+use Rattle.device.specs.Cells.{Meaning, reads, Leaves}
 use Rattle.device.specs.Cells.Cell.{settled}
 use Rattle.device.specs.Faults.{Where}
 use Rattle.device.specs.Calls.{wanted}

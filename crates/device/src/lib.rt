@@ -1,4 +1,6 @@
 // Flash chips and disks as interfaces with an exact meaning, and the laws that every layer above rests on.
+#![tactic(auto)]
+
 mod chips;
 mod disks;
 mod faults;

@@ -1,4 +1,6 @@
 // The bytes of a disk image: a frame of 1,026 bytes for each block, with its state, its fate, its settled content and its new content.
+#![tactic(auto)]
+
 ghost use Rattle.std.specs.Prelude.{◌≡◌, ℕ, ◌<◌, ◌≤◌, length, MatchOption, ◌==◌};
 ghost use Rattle.device.specs.Cells.{reads, is_unsettled};
 ghost use Rattle.device.specs.Cells.Cell.{settled};

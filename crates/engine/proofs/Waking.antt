@@ -4,7 +4,6 @@ use mathlib.Core.Path.{fun_ext}
 use Rattle.std.proofs.lemmas.Bool.{cases_eq, cond-true, and_from, le-leb}
 use Rattle.device.specs.declared.faults.Fault.{Fault}
 use Rattle.device.specs.Cells.{is_unsettled, Cut, Leaves}
-use Rattle.device.specs.Cells.Cell.{settled}
 use Rattle.device.specs.Chips.{State, Pages, Tears, Powers, data_page_at}
 use Rattle.device.specs.Chips.State.{blank, torn, held}
 use Rattle.device.proofs.Chipwise.{chip_cuts}

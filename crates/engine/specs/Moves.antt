@@ -1,5 +1,5 @@
 -- What each call makes of the world: the pages, the journal and the cursor.
-use Rattle.std.specs.Prelude.{ℕ, Bool, true, false, cond, List, length, ◌==◌}
+use Rattle.std.specs.Prelude.{ℕ, Bool, true, cond, List, length, ◌==◌}
 use Rattle.device.specs.declared.places.DataPage.{DataPage}
 use Rattle.device.specs.declared.places.DiskAddress.{DiskAddress}
 use Rattle.layout.specs.declared.entries.Mark.{Mark}
@@ -7,7 +7,7 @@ use Rattle.layout.specs.declared.entries.Mark.TheVariants.{Clean, Dirty}
 use Rattle.layout.specs.declared.records.Record.{Record}
 use Rattle.layout.specs.declared.records.Record.TheVariants.{PutClean, PutDirty, Drop, MarkClean}
 use Rattle.table.specs.Tables.{Table, held, entered, without, cleaned}
-use Rattle.journal.specs.Notes.{Noted, staging}
+use Rattle.journal.specs.Notes.{staging}
 use Rattle.space.specs.Worlds.{World, committing, placed}
 
 abbrev pub page : ℕ → DataPage

@@ -1,4 +1,6 @@
 // What each call of a cache does to its chip, journal and data pages, while it is on.
+#![tactic(auto)]
+
 mod marking;
 mod powering;
 mod reading;

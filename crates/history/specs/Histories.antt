@@ -1,6 +1,5 @@
 -- What a run of calls promises. A history says of each disk address what the calls so far have made of it; the answers have to fit it.
-use Rattle.std.specs.Prelude.{◌≡◌, ℕ, Bool, true, false, cond, ◌⊎◌, List, [], ◌∷◌, ◌==◌}
-use Rattle.device.specs.declared.faults.Fault.{Fault}
+use Rattle.std.specs.Prelude.{◌≡◌, ℕ, Bool, true, cond, ◌⊎◌, List, [], ◌∷◌, ◌==◌}
 use Rattle.device.specs.Faults.{refusal_number}
 use Rattle.history.specs.declared.calls.Call.{Call}
 use Rattle.history.specs.declared.calls.Call.TheVariants.{WriteDirty, WriteClean, Read, Evict, Clean, Exists, Sync, PowerOn}

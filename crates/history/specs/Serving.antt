@@ -1,5 +1,5 @@
 -- What serving one call of a list means for the cache, and what a whole run answers.
-use Rattle.std.specs.Prelude.{◌≡◌, ℕ, Bool, true, false, ◌⊎◌, List, length, take, Some, None, Ok, Err, vec_items, Result}
+use Rattle.std.specs.Prelude.{◌≡◌, ℕ, true, false, ◌⊎◌, List, length, take, Some, None, Ok, Err, vec_items, Result}
 use Rattle.device.specs.declared.faults.Fault.{Fault}
 use Rattle.device.specs.Chips.{Pages}
 use Rattle.layout.specs.Geometry.{geometry_refusal}

@@ -1,12 +1,12 @@
 -- What an image chip does exactly is what a chip may do.
-use Rattle.std.proofs.Common.{◌≡◌, ℕ, ◌*◌, ◌/◌, ◌<◌, Bool, true, false, cond, eqb, ltb, List, length, Some, None, Ok, Err, Option, Result, sym, refl, ap, ◌∙◌, inl, inr, arith}
+use Rattle.std.proofs.Common.{◌≡◌, ℕ, ◌*◌, ◌/◌, ◌<◌, Bool, true, false, cond, eqb, ltb, List, length, Some, None, Ok, Result, sym, refl, ap, ◌∙◌, inl, arith}
 use Rattle.std.proofs.lemmas.Bool.{ltb-true, lt-ltb}
 use Rattle.device.specs.declared.faults.Fault.{Fault}
 use Rattle.device.specs.declared.faults.Refusal.TheVariants.{PowerOff, Unsettled}
-use Rattle.device.specs.Cells.{Cell, reads, Cut}
-use Rattle.device.specs.Calls.{Served, Halted, in_order}
+use Rattle.device.specs.Cells.{reads, Cut}
+use Rattle.device.specs.Calls.{Served, Halted}
 use Rattle.device.specs.Faults.{chip_fault}
-use Rattle.device.specs.Chips.{Note, State, Tears, page_count, Reads, read_refusal, read_at, Programs, program_refusal, program_at, programmed, Erases, erase_refusal, erased_block, unsettled_in, Syncs, sync_refusal, synced, Powers}
+use Rattle.device.specs.Chips.{Note, Tears, page_count, Reads, read_refusal, read_at, Programs, program_refusal, program_at, programmed, Erases, erase_refusal, erased_block, unsettled_in, Syncs, sync_refusal, synced, Powers}
 use Rattle.device.specs.Chips.State.{held}
 use Rattle.device.proofs.Settling.{in_order_met}
 use Rattle.chip_frames.specs.Frames.{Whole, blocks_in, page_in, page_of, image_pages, Framed, Restated, settling, erasing, cutting}

@@ -1,10 +1,10 @@
 -- What an image device does exactly is what the rules of its kind allow.
-use Rattle.std.proofs.Common.{◌≡◌, ℕ, suc, ◌-◌, ◌<◌, ◌≤◌, Bool, true, false, ◌⊎◌, List, [], ◌∷◌, length, get_or, take, drop, Some, None, Ok, Err, Option, Result, sym, refl, ap, ◌∙◌, inl, inr, arith}
-use Rattle.std.proofs.lemmas.List.{take_all, take_rest}
+use Rattle.std.proofs.Common.{◌≡◌, ℕ, ◌-◌, ◌≤◌, true, List, [], ◌∷◌, length, get_or, take, drop, Some, None, Ok, Err, Option, Result, refl, ap, ◌∙◌, inl, inr, arith}
+use Rattle.std.proofs.lemmas.List.{take_rest}
 use Rattle.device.specs.declared.faults.Fault.{Fault}
 use Rattle.device.specs.Cells.{Cell, Meaning, Becomes}
 use Rattle.device.specs.Calls.{Call, Served}
-use Rattle.image.specs.Exact.{View, Counted, Looked, Switched, dark, next_fuse, later_fuses}
+use Rattle.image.specs.Exact.{View, Counted, Looked, Switched, next_fuse, later_fuses}
 
 pub next_is : (xs : List ℕ) → 1 ≤ length xs → Some (get_or xs 0 0) ≡ next_fuse xs
 next_is [] h = absurd (omega arith)

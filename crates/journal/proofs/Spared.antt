@@ -3,7 +3,7 @@ use Rattle.std.proofs.Common.{◌≡◌, ℕ, zero, suc, ◌+◌, ◌-◌, ◌*�
 use Rattle.std.proofs.ByRecursion.{All-push}
 use Rattle.std.proofs.lemmas.List.{length-append}
 use Rattle.std.proofs.lemmas.Bool.{and_parts, eq-eqb, eqb-true, both_ways, cases_Bool, cond_both, cond-true, cond-false}
-use Rattle.std.specs.List.{AllByRecursion as All}
+use Rattle.std.specs.List.{AllByRecursion}
 use Rattle.device.specs.Chips.{Pages, block_of, data_page_at}
 use Rattle.layout.specs.declared.records.Record.{Record}
 use Rattle.layout.specs.declared.records.Record.TheVariants.{Drop}
@@ -80,7 +80,7 @@ spared_out t b i h =
 pub record Follows (t : Table) (v : Noted) : Type 0 where
   pub proper : ProperTable v.table
   pub makes : replayed (Some t) v.staged ≡ Some v.table
-  pub records : All ProperRecord v.staged
+  pub records : AllByRecursion ProperRecord v.staged
 
 page_follows : (t : Table) (v : Noted) (i : ℕ) → Follows t v → Follows t (dropping_page i v)
 page_follows t v i h =

@@ -1,10 +1,9 @@
 -- The points of a cut by other names: the same tables, with pages that read the same where the table marks them.
 use Rattle.std.proofs.Common.{◌≡◌, ℕ, ◌<◌, true, sym, ap, ◌∙◌, subst}
-use Rattle.device.specs.Chips.{State, Pages, data_page_at}
-use Rattle.layout.specs.declared.areas.Area.{Area}
-use Rattle.table.specs.Tables.{Table, marked_at}
+use Rattle.device.specs.Chips.{Pages, data_page_at}
+use Rattle.table.specs.Tables.{marked_at}
 use Rattle.crash.specs.Crash.{Finds}
-use Rattle.journal.specs.Points.{Point, point, ReadsAs, Left}
+use Rattle.journal.specs.Points.{Point, Left}
 
 -- y is the point x again: the same table, and its marked pages read the same
 pub record SamePoint (D : ℕ) (x y : Point) : Type 0 where

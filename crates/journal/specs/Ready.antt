@@ -1,6 +1,6 @@
 -- What the journal and the chip keep true of each other between calls, while the chip is on.
 use Rattle.std.specs.Prelude.{◌≡◌, ℕ, ◌<◌, ◌≤◌, true, false, length, Some}
-use Rattle.std.specs.List.{AllByRecursion as All}
+use Rattle.std.specs.List.{AllByRecursion}
 use Rattle.device.specs.Cells.{is_unsettled}
 use Rattle.device.specs.Chips.{Pages, data_page_at}
 use Rattle.device.specs.Chips.State.{blank}
@@ -22,7 +22,7 @@ pub record Ready (D : ℕ) (m : Pages) (v : Noted) (t : Table) : Type 0 where
   pub small : v.number < 3
   pub makes : replayed (Some t) v.staged ≡ Some v.table
   pub room : length v.staged ≤ 64
-  pub records : All ProperRecord v.staged
+  pub records : AllByRecursion ProperRecord v.staged
   pub long : length v.table ≡ D
   pub proper : ProperTable v.table
   pub ends : v.next ≤ log_pages D

@@ -1,5 +1,5 @@
 -- What the journal's calls answer and leave.
-use Rattle.std.specs.Prelude.{◌≡◌, ℕ, ◌+◌, ◌-◌, ◌*◌, ◌<◌, ◌≤◌, Bool, true, false, cond, length, Ok, Err, Result, ◌==◌, nat_lt}
+use Rattle.std.specs.Prelude.{◌≡◌, ℕ, ◌-◌, ◌*◌, ◌<◌, ◌≤◌, true, false, cond, length, Ok, Err, Result, ◌==◌, nat_lt}
 use Rattle.device.specs.declared.faults.Fault.{Fault}
 use Rattle.device.specs.Cells.{is_unsettled}
 use Rattle.device.specs.Cells.Cell.{settled}

@@ -1,4 +1,6 @@
 // The journal of the mapping table: records staged in memory, and commits of them to a chip.
+#![tactic(auto)]
+
 mod areas;
 mod commits;
 mod dropping;

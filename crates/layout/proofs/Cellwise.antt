@@ -1,9 +1,9 @@
 -- A page of values with eight bytes each: how it is written value by value and read back, over any such values.
-use Rattle.std.proofs.Common.{◌≡◌, ℕ, zero, suc, ◌+◌, ◌-◌, ◌*◌, ◌<◌, ◌≤◌, List, [], ◌∷◌, ◌++◌, length, get_or, take, drop, set, replicate, Some, None, Option, sym, refl, ap, ◌∙◌, subst, arith, lit≤, take-add}
+use Rattle.std.proofs.Common.{◌≡◌, ℕ, zero, suc, ◌+◌, ◌-◌, ◌*◌, ◌<◌, ◌≤◌, List, [], ◌∷◌, ◌++◌, length, get_or, take, drop, set, Some, None, Option, sym, refl, ap, ◌∙◌, subst, arith, lit≤, take-add}
 use borrow.Rule.Slice.PartMut.{put_mid}
-use Rattle.std.proofs.lemmas.List.{append_assoc, append-nil, length-append, length-take-le, length-drop, length-replicate, take_at, drop_at, drop-drop, take-append-drop, take_more, take_more_set, get_or-drop, get_or-replicate, get_or_past, get_or-append_right, replicate-append-replicate, flat_map_more, ext_get_or, take_all}
-use Rattle.std.proofs.ByRecursion.{All-get_or, All-push}
-use Rattle.std.specs.List.{flat_map, AllByRecursion as All}
+use Rattle.std.proofs.lemmas.List.{append_assoc, append-nil, length-append, length-take-le, length-drop, length-replicate, take_at, drop_at, drop-drop, take-append-drop, take_more, take_more_set, get_or-drop, get_or-replicate, get_or-append_right, replicate-append-replicate, flat_map_more, ext_get_or, take_all}
+use Rattle.std.proofs.ByRecursion.{All-push}
+use Rattle.std.specs.List.{flat_map, AllByRecursion}
 use Rattle.layout.specs.Bytes.{zeros, Decodes}
 use Rattle.layout.specs.Pages.{cells_page}
 
@@ -102,7 +102,7 @@ module _ {X : Type 0} (bytes : X → List ℕ) (eight : (x : X) → length (byte
   one_front page x e = ap (take 8) (e ∙ append_assoc (bytes x) [] (zeros 504)) ∙ take_at (bytes x) (zeros 504) 8 (eight x)
 
   module _ (Proper : X → Type 0) where
-    cell_in : (xs : List X) (k : ℕ) (rest : List ℕ) → k < length xs → All Proper xs
+    cell_in : (xs : List X) (k : ℕ) (rest : List ℕ) → k < length xs → AllByRecursion Proper xs
         → (x : X) × Proper x × (take 8 (drop (8 * k) (flat_map bytes xs ++ rest)) ≡ bytes x)
     cell_in [] k rest l ps = absurd (omega arith)
     cell_in (x ∷ xs) zero rest l (p, ps) =
@@ -119,7 +119,7 @@ module _ {X : Type 0} (bytes : X → List ℕ) (eight : (x : X) → length (byte
         )
 
     -- a proper value stands at each place of a page of proper values
-    pub cell_proper : (page : List ℕ) (xs : List X) (k : ℕ) → page ≡ cells_page bytes xs → k < length xs → All Proper xs
+    pub cell_proper : (page : List ℕ) (xs : List X) (k : ℕ) → page ≡ cells_page bytes xs → k < length xs → AllByRecursion Proper xs
         → (x : X) × Proper x × (take 8 (drop (8 * k) page) ≡ bytes x)
     unfolding cells_page
     cell_proper page xs k e l ps =
@@ -128,17 +128,17 @@ module _ {X : Type 0} (bytes : X → List ℕ) (eight : (x : X) → length (byte
 
     -- the loop's step, and its end
     pub get_again : (page : List ℕ) (xs : List X) (k : ℕ) (x : X) → k < length xs
-        → All Proper (take k xs) × (take (8 * k) page ≡ flat_map bytes (take k xs)) → Proper x → take 8 (drop (8 * k) page) ≡ bytes x
-        → All Proper (take (k + 1) (set xs k x)) × (take (8 * (k + 1)) page ≡ flat_map bytes (take (k + 1) (set xs k x)))
+        → AllByRecursion Proper (take k xs) × (take (8 * k) page ≡ flat_map bytes (take k xs)) → Proper x → take 8 (drop (8 * k) page) ≡ bytes x
+        → AllByRecursion Proper (take (k + 1) (set xs k x)) × (take (8 * (k + 1)) page ≡ flat_map bytes (take (k + 1) (set xs k x)))
     get_again page xs k x l (ps, front) p here =
-        (subst (All Proper) (sym (take_more_set xs k x l)) (All-push Proper (take k xs) x ps p), get_more page xs k x l front here)
+        (subst (AllByRecursion Proper) (sym (take_more_set xs k x l)) (All-push Proper (take k xs) x ps p), get_more page xs k x l front here)
 
     pub get_done : (page : List ℕ) (xs : List X) (k m : ℕ) → k ≡ length xs → m ≡ 8 * length xs → length page ≡ 512 → length xs ≤ 64
-        → All Proper (take k xs) × (take (8 * k) page ≡ flat_map bytes (take k xs))
-        → ((i : ℕ) → m ≤ i → i < length page → get_or page i 0 ≡ 0) → All Proper xs × (page ≡ cells_page bytes xs)
+        → AllByRecursion Proper (take k xs) × (take (8 * k) page ≡ flat_map bytes (take k xs))
+        → ((i : ℕ) → m ≤ i → i < length page → get_or page i 0 ≡ 0) → AllByRecursion Proper xs × (page ≡ cells_page bytes xs)
     get_done page xs k m n e whole few (ps, front) rest-is =
         let all : take k xs ≡ xs = take_all k xs (omega arith) in (
-          subst (All Proper) all ps,
+          subst (AllByRecursion Proper) all ps,
           get_all page xs whole few (ap (λ j. take (8 * j) page) (sym n) ∙ front ∙ ap (flat_map bytes) all) (λ i h j. rest-is i (omega arith) j),
         )
 
@@ -150,7 +150,7 @@ module _ {X : Type 0} (bytes : X → List ℕ) (eight : (x : X) → length (byte
     one_decodes page whole rest-is None none = λ y q f. none y q (one_front page y f)
 
     module _ (apart : (x y : X) → Proper x → Proper y → bytes x ≡ bytes y → x ≡ y) where
-      same_joined : (xs ys : List X) (r s : List ℕ) → length xs ≡ length ys → All Proper xs → All Proper ys
+      same_joined : (xs ys : List X) (r s : List ℕ) → length xs ≡ length ys → AllByRecursion Proper xs → AllByRecursion Proper ys
           → flat_map bytes xs ++ r ≡ flat_map bytes ys ++ s → xs ≡ ys
       same_joined [] [] r s l ps qs e = refl
       same_joined [] (y ∷ ys) r s l ps qs e = absurd (omega arith)
@@ -167,6 +167,6 @@ module _ {X : Type 0} (bytes : X → List ℕ) (eight : (x : X) → length (byte
           cc
 
       -- as many proper values with the same page are the same values
-      pub same_cells : (xs ys : List X) → length xs ≡ length ys → All Proper xs → All Proper ys → cells_page bytes xs ≡ cells_page bytes ys → xs ≡ ys
+      pub same_cells : (xs ys : List X) → length xs ≡ length ys → AllByRecursion Proper xs → AllByRecursion Proper ys → cells_page bytes xs ≡ cells_page bytes ys → xs ≡ ys
       unfolding cells_page
       same_cells xs ys l ps qs e = same_joined xs ys (zeros (512 - 8 * length xs)) (zeros (512 - 8 * length ys)) l ps qs e

@@ -1,8 +1,8 @@
 -- Reading an entry page into its part of a table, and a log page into the front of a buffer.
-use Rattle.std.proofs.Common.{◌≡◌, ℕ, ◌+◌, ◌-◌, ◌*◌, ◌<◌, ◌≤◌, min, Bool, true, false, List, ◌++◌, length, take, drop, Some, None, sym, refl, ap, ◌∙◌, subst, arith}
+use Rattle.std.proofs.Common.{◌≡◌, ℕ, ◌+◌, ◌-◌, ◌*◌, ◌≤◌, min, Bool, true, false, List, ◌++◌, length, take, drop, Some, None, sym, refl, ap, ◌∙◌, subst, arith}
 use native.Mathlib.Nat.{min-le_left}
 use borrow.Rule.Slice.PartMut.{put_mid}
-use Rattle.std.specs.List.{AllByRecursion as All}
+use Rattle.std.specs.List.{AllByRecursion}
 use Rattle.std.proofs.lemmas.List.{length-drop, length-take-le, take_at, drop_at, take-append-drop}
 use Rattle.std.proofs.lemmas.Slice.{take-put_mid_below, drop-put_mid}
 use Rattle.device.specs.Chips.{Note}
@@ -23,8 +23,8 @@ module _ (note : Note) (page : List ℕ) (j : ℕ) (table : List Entry) (e : ℕ
   slice_length = let d = length-drop (64 * j) table in length-take-le (e - 64 * j) (drop (64 * j) table) (omega arith)
 
   pub entries_read : (r : Bool) → note ≡ entry_note j
-      → (r ≡ true → All ProperEntry part × (page ≡ cells_page entry_bytes part))
-      → (r ≡ false → (xs : List Entry) → length xs ≡ length (take (e - 64 * j) (drop (64 * j) table)) → All ProperEntry xs → page ≡ cells_page entry_bytes xs → ⊥)
+      → (r ≡ true → AllByRecursion ProperEntry part × (page ≡ cells_page entry_bytes part))
+      → (r ≡ false → (xs : List Entry) → length xs ≡ length (take (e - 64 * j) (drop (64 * j) table)) → AllByRecursion ProperEntry xs → page ≡ cells_page entry_bytes xs → ⊥)
       → (r ≡ false → part ≡ take (e - 64 * j) (drop (64 * j) table))
       → EntriesRead note page j table r (put_mid (64 * j) (e - 64 * j) table part)
   entries_read true is got none same =
@@ -34,7 +34,7 @@ module _ (note : Note) (page : List ℕ) (j : ℕ) (table : List Entry) (e : ℕ
       let short : e - 64 * j ≤ 64 = subst (λ z. z ≤ 64) (sym size) (min-le_left 64 (length table - 64 * j)) in (
         is,
         t.1 ∙ ap (cells_page entry_bytes) (sym here),
-        subst (All ProperEntry) (sym here) t.0,
+        subst (AllByRecursion ProperEntry) (sym here) t.0,
         take-put_mid_below (64 * j) (e - 64 * j) table part (64 * j) (omega arith) inside,
         drop-put_mid (64 * j) (e - 64 * j) table part (64 * j + 64) (omega arith) inside long,
       )
@@ -48,7 +48,7 @@ module _ (note : Note) (page : List ℕ) (buf part : List Record) (k : ℕ) (n :
   front_length : length (take k buf) ≡ note.1
   front_length = length-take-le k buf (omega arith) ∙ n
 
-  pub log_got : (note.1 ≡ 0 → ⊥) → note.1 ≤ 64 → note.0 ≡ 3 → note.2 ≡ 0 → All ProperRecord part × (page ≡ cells_page record_bytes part)
+  pub log_got : (note.1 ≡ 0 → ⊥) → note.1 ≤ 64 → note.0 ≡ 3 → note.2 ≡ 0 → AllByRecursion ProperRecord part × (page ≡ cells_page record_bytes part)
       → LogRead note page buf (Some note.1) (part ++ drop k buf)
   log_got some small kind zero (ps, e) =
       let long : length part ≡ note.1 = kept ∙ front_length in
@@ -59,7 +59,7 @@ module _ (note : Note) (page : List ℕ) (buf part : List Record) (k : ℕ) (n :
       let q : Read (take note.1 (part ++ drop k buf)) = subst Read (sym here) (sym long, proper, note_is note 3 (length part) 0 kind (sym long) zero, e) in
       (q.0, q.1, q.2, q.3, behind)
 
-  pub log_not : ((xs : List Record) → length xs ≡ length (take k buf) → All ProperRecord xs → page ≡ cells_page record_bytes xs → ⊥) → part ≡ take k buf
+  pub log_not : ((xs : List Record) → length xs ≡ length (take k buf) → AllByRecursion ProperRecord xs → page ≡ cells_page record_bytes xs → ⊥) → part ≡ take k buf
       → LogRead note page buf None (part ++ drop k buf)
   log_not none same = (
     ap (λ z. z ++ drop k buf) same ∙ take-append-drop k buf,

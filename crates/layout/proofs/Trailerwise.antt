@@ -1,9 +1,8 @@
 -- Trailers and their bytes: no two have the same, and what is read is what was written.
-use Rattle.std.proofs.Common.{◌≡◌, ℕ, ◌%◌, ◌<◌, List, [], ◌∷◌, length, get_or, sym, refl, ap, ◌∙◌, ap₂, arith}
+use Rattle.std.proofs.Common.{◌≡◌, ℕ, ◌%◌, ◌<◌, List, [], ◌∷◌, length, get_or, refl, ap, ap₂, arith}
 use Rattle.layout.specs.declared.areas.Area.{Area}
 use Rattle.layout.specs.declared.areas.Area.TheVariants.{One, Two}
 use Rattle.layout.specs.declared.trailers.Trailer.{Trailer}
-use Rattle.layout.specs.Bytes.{two_bytes}
 use Rattle.layout.specs.Geometry.{first_page}
 use Rattle.layout.specs.Pages.{trailer_bytes, ProperTrailer}
 use Rattle.layout.specs.Numbers.{two_number, two_in, two_same, eight_listed}

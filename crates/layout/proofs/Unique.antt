@@ -1,6 +1,6 @@
 -- A checkpoint and a log page determine what they hold.
-use Rattle.std.proofs.Common.{◌≡◌, ℕ, ◌+◌, ◌-◌, ◌*◌, ◌/◌, ◌<◌, ◌≤◌, min, ◌⊎◌, List, [], ◌∷◌, length, take, drop, sym, refl, ap, ◌∙◌, subst, inl, inr, arith}
-use Rattle.std.specs.List.{AllByRecursion as All}
+use Rattle.std.proofs.Common.{◌≡◌, ℕ, ◌+◌, ◌-◌, ◌*◌, ◌<◌, min, ◌⊎◌, List, [], ◌∷◌, length, drop, sym, refl, ap, ◌∙◌, subst, inl, inr, arith}
+use Rattle.std.specs.List.{AllByRecursion}
 use Rattle.std.proofs.lemmas.Bool.{cases_order}
 use Rattle.std.proofs.lemmas.List.{length-take, length-drop}
 use Rattle.std.proofs.ByRecursion.{All-take, All-drop}
@@ -11,11 +11,11 @@ use Rattle.layout.specs.declared.entries.Entry.{Entry}
 use Rattle.layout.specs.declared.records.Record.{Record}
 use Rattle.layout.specs.declared.records.Record.TheVariants.{PutClean, PutDirty, Drop, MarkClean}
 use Rattle.layout.specs.declared.trailers.Trailer.{Trailer}
-use Rattle.layout.specs.Geometry.{first_page, entry_pages, entry_page_at, trailer_at}
+use Rattle.layout.specs.Geometry.{first_page, entry_pages}
 use Rattle.layout.specs.Entries.{entry_bytes, ProperEntry}
 use Rattle.layout.specs.Records.{record_bytes, ProperRecord}
 use Rattle.layout.specs.Pages.{entry_part, entry_data, entry_note, trailer_bytes, ProperTrailer, trailer_data, trailer_note, log_data, log_note}
-use Rattle.layout.specs.Laws.{ProperTable, Checkpoint, entry_page, trailer_page, log_page, OneCheckpoint, OneLog}
+use Rattle.layout.specs.Laws.{ProperTable, Checkpoint, entry_page, trailer_page, OneCheckpoint, OneLog}
 use Rattle.layout.specs.Recordwise.{same_record}
 use Rattle.layout.specs.Entrywise.{same_entry}
 use Rattle.layout.proofs.Trailerwise.{same_trailer}
@@ -35,7 +35,7 @@ record_eight (Drop address) = refl
 record_eight (MarkClean address) = refl
 
 -- pages that are the same entry page of two tables as long as each other
-same_entry_page : (t u : List Entry) (j : ℕ) → All ProperEntry t → All ProperEntry u → length t ≡ length u → entry_page t j ≡ entry_page u j
+same_entry_page : (t u : List Entry) (j : ℕ) → AllByRecursion ProperEntry t → AllByRecursion ProperEntry u → length t ≡ length u → entry_page t j ≡ entry_page u j
     → entry_part t j ≡ entry_part u j
 same_entry_page t u j ps qs l e =
     let lt : length (entry_part t j) ≡ min 64 (length (drop (64 * j) t)) = length-take 64 (drop (64 * j) t) in

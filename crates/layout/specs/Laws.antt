@@ -1,6 +1,6 @@
 -- What the pages of a checkpoint or of a log say, they say in one way only.
 use Rattle.std.specs.Prelude.{◌≡◌, ℕ, ◌<◌, ◌≤◌, List, length}
-use Rattle.std.specs.List.{AllByRecursion as All}
+use Rattle.std.specs.List.{AllByRecursion}
 use Rattle.device.specs.Chips.{State}
 use Rattle.device.specs.Chips.State.{held}
 use Rattle.layout.specs.declared.areas.Area.{Area}
@@ -13,7 +13,7 @@ use Rattle.layout.specs.Pages.{entry_note, entry_data, trailer_note, trailer_dat
 -- the table of a chip of at most 64 erase blocks
 pub record ProperTable (table : List Entry) : Type 0 where
   pub few : length table ≤ 448
-  pub each : All ProperEntry table
+  pub each : AllByRecursion ProperEntry table
 
 abbrev pub entry_page : List Entry → ℕ → State
 entry_page table j = held (entry_note j) (entry_data table j)

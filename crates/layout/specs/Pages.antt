@@ -1,14 +1,13 @@
 -- The pages of the mapping table, each a note and 512 bytes: entry pages and trailer of a checkpoint, log pages, and the notes of data pages.
 use Rattle.std.specs.Prelude.{◌≡◌, ℕ, ◌+◌, ◌-◌, ◌*◌, ◌<◌, ◌≤◌, Bool, true, false, List, [], ◌∷◌, ◌++◌, length, take, drop, Some, None, Option, ◌≢◌}
-use Rattle.std.specs.List.{flat_map, AllByRecursion as All}
-use Rattle.device.specs.Chips.{Note, State}
-use Rattle.device.specs.Chips.State.{held}
+use Rattle.std.specs.List.{flat_map, AllByRecursion}
+use Rattle.device.specs.Chips.{Note}
 use Rattle.layout.specs.declared.areas.Area.{Area}
 use Rattle.layout.specs.declared.entries.Entry.{Entry}
 use Rattle.layout.specs.declared.records.Record.{Record}
 use Rattle.layout.specs.declared.trailers.Trailer.{Trailer}
 use Rattle.layout.specs.Bytes.{two_bytes, zeros}
-use Rattle.layout.specs.Geometry.{first_page, entry_pages, entry_page_at, trailer_at}
+use Rattle.layout.specs.Geometry.{first_page, entry_pages}
 use Rattle.layout.specs.Records.{record_bytes, ProperRecord}
 use Rattle.layout.specs.Entries.{entry_bytes, ProperEntry}
 
@@ -32,10 +31,10 @@ entry_data table j = cells_page entry_bytes (entry_part table j)
 -- of this size, and the table stays.
 abbrev pub EntriesRead : Note → List ℕ → ℕ → List Entry → Bool → List Entry → Type 0
 EntriesRead note page j table true after =
-    (note ≡ entry_note j) × (page ≡ entry_data after j) × All ProperEntry (entry_part after j) × (take (64 * j) after ≡ take (64 * j) table)
+    (note ≡ entry_note j) × (page ≡ entry_data after j) × AllByRecursion ProperEntry (entry_part after j) × (take (64 * j) after ≡ take (64 * j) table)
     × (drop (64 * j + 64) after ≡ drop (64 * j + 64) table)
 EntriesRead note page j table false after =
-    (after ≡ table) × ((t : List Entry) → length t ≡ length table → All ProperEntry (entry_part t j) → note ≡ entry_note j → page ≢ entry_data t j)
+    (after ≡ table) × ((t : List Entry) → length t ≡ length table → AllByRecursion ProperEntry (entry_part t j) → note ≡ entry_note j → page ≢ entry_data t j)
 
 -- Trailers: four letters, the area's first chip page, the number of data pages, zeros
 
@@ -67,7 +66,7 @@ log_data records = cells_page record_bytes records
 pub record ProperLog (records : List Record) : Type 0 where
   pub some : 0 < length records
   pub few : length records ≤ 64
-  pub each : All ProperRecord records
+  pub each : AllByRecursion ProperRecord records
 
 -- Reading a log page answers the number of its records, which stand before what the buffer held; or the page is no log page, and the buffer stays.
 abbrev pub LogRead : Note → List ℕ → List Record → Option ℕ → List Record → Type 0

@@ -1,7 +1,5 @@
 -- A log record's eight bytes: its kind, a zero, the data page, the disk address.
 use Rattle.std.specs.Prelude.{ℕ, ◌<◌, List, ◌∷◌}
-use Rattle.device.specs.declared.places.DataPage.{DataPage}
-use Rattle.device.specs.declared.places.DiskAddress.{DiskAddress}
 use Rattle.layout.specs.declared.records.Record.{Record}
 use Rattle.layout.specs.declared.records.Record.TheVariants.{PutClean, PutDirty, Drop, MarkClean}
 use Rattle.layout.specs.Bytes.{two_bytes, four_bytes}

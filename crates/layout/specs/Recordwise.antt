@@ -1,11 +1,11 @@
 -- Records and their bytes: no two records have the same, and what is read is what was written.
-use Rattle.std.specs.Prelude.{◌≡◌, ℕ, ◌<◌, List, [], ◌∷◌, length, slice_index, slice_index_or, refl}
-use Rattle.std.proofs.Common.{sym, ap, ap₂, ◌∙◌, arith}
+use Rattle.std.specs.Prelude.{◌≡◌, ℕ, ◌<◌, List, length, slice_index, slice_index_or}
+use Rattle.std.proofs.Common.{ap, ap₂, arith}
 use Rattle.device.specs.declared.places.DataPage.{DataPage}
 use Rattle.device.specs.declared.places.DiskAddress.{DiskAddress}
 use Rattle.layout.specs.declared.records.Record.{Record}
 use Rattle.layout.specs.declared.records.Record.TheVariants.{PutClean, PutDirty, Drop, MarkClean}
-use Rattle.layout.specs.Bytes.{two_bytes, four_bytes}
+use Rattle.layout.specs.Bytes.{four_bytes}
 use Rattle.layout.specs.Records.{record_cell, record_bytes, ProperRecord}
 use Rattle.layout.specs.Numbers.{two_number, four_number, two_in, two_same, four_same, tail_read}
 

@@ -1,4 +1,6 @@
 // The mapping table as bytes on flash: where its pages lie, and what they hold.
+#![tactic(auto)]
+
 mod areas;
 mod cells;
 mod checkpoints;

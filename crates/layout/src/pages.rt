@@ -1,6 +1,6 @@
 // A page of values with eight bytes each, and zeros after them.
 ghost use Rattle.std.specs.Prelude.{◌≡◌, ℕ, ◌+◌, ◌*◌, ◌<◌, ◌≤◌, true, false, List, [], ◌∷◌, ◌++◌, length, take, drop, ◌≢◌, slice_index};
-ghost use Rattle.std.specs.List.{AllByRecursion as All};
+ghost use Rattle.std.specs.List.{AllByRecursion};
 ghost use Rattle.layout.specs.Bytes.{Decodes};
 ghost use Rattle.layout.specs.Pages.{cells_page};
 
@@ -52,8 +52,8 @@ fn zero_from(page: &[u8], first: usize) -> bool
 fn get_cells<C: Cell>(page: &[u8], cells: &mut [C]) -> bool
     requires few { length cells.old ≤ 64 }
     requires whole { length page.now ≡ 512 }
-    ensures yes { result ≡ true → All C.Cell.proper cells.new × (page.now ≡ cells_page C.Cell.bytes cells.new) }
-    ensures no { result ≡ false → (xs : List C) → length xs ≡ length cells.old → All C.Cell.proper xs → page.now ≢ cells_page C.Cell.bytes xs }
+    ensures yes { result ≡ true → AllByRecursion C.Cell.proper cells.new × (page.now ≡ cells_page C.Cell.bytes cells.new) }
+    ensures no { result ≡ false → (xs : List C) → length xs ≡ length cells.old → AllByRecursion C.Cell.proper xs → page.now ≢ cells_page C.Cell.bytes xs }
 {
     for k in 0..cells.len() {
         match cell_at(page, k) {
@@ -68,8 +68,8 @@ fn get_cells<C: Cell>(page: &[u8], cells: &mut [C]) -> bool
 fn holds_cells<C: Cell>(page: &[u8], count: usize) -> bool
     requires few { count ≤ 64 }
     requires whole { length page.now ≡ 512 }
-    ensures yes { result ≡ true → (xs : List C) × (length xs ≡ count) × All C.Cell.proper xs × (page.now ≡ cells_page C.Cell.bytes xs) }
-    ensures no { result ≡ false → (xs : List C) → length xs ≡ count → All C.Cell.proper xs → page.now ≢ cells_page C.Cell.bytes xs }
+    ensures yes { result ≡ true → (xs : List C) × (length xs ≡ count) × AllByRecursion C.Cell.proper xs × (page.now ≡ cells_page C.Cell.bytes xs) }
+    ensures no { result ≡ false → (xs : List C) → length xs ≡ count → AllByRecursion C.Cell.proper xs → page.now ≢ cells_page C.Cell.bytes xs }
 {
     for k in 0..count {
         match cell_at::<C>(page, k) {
@@ -84,8 +84,8 @@ fn holds_cells<C: Cell>(page: &[u8], count: usize) -> bool
 pub(crate) fn read_cells<C: Cell>(page: &[u8], cells: &mut [C]) -> bool
     requires few { length cells.old ≤ 64 }
     requires whole { length page.now ≡ 512 }
-    ensures yes { result ≡ true → All C.Cell.proper cells.new × (page.now ≡ cells_page C.Cell.bytes cells.new) }
-    ensures no { result ≡ false → (xs : List C) → length xs ≡ length cells.old → All C.Cell.proper xs → page.now ≢ cells_page C.Cell.bytes xs }
+    ensures yes { result ≡ true → AllByRecursion C.Cell.proper cells.new × (page.now ≡ cells_page C.Cell.bytes cells.new) }
+    ensures no { result ≡ false → (xs : List C) → length xs ≡ length cells.old → AllByRecursion C.Cell.proper xs → page.now ≢ cells_page C.Cell.bytes xs }
     ensures same { result ≡ false → cells.new ≡ cells.old }
 {
     if !holds_cells::<C>(page, cells.len()) {

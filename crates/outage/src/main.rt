@@ -1,4 +1,6 @@
 // A bench: it records alarms on a chip, a disk and a pair of chips, cuts their power, and says what is left.
+#![tactic(auto)]
+
 mod alarms;
 mod chip_night;
 mod chip_steps;

@@ -1,4 +1,6 @@
 // Two chips joined into one.
+#![tactic(auto)]
+
 mod halves;
 mod pairs;
 

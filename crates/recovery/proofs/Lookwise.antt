@@ -1,5 +1,5 @@
 -- What a refused look at a page says of the chip.
-use Rattle.std.proofs.Common.{◌≡◌, ℕ, ◌*◌, ◌<◌, Bool, true, false, cond, eqb, ltb, ◌⊎◌, List, length, Some, None, Ok, Err, Option, sym, refl, ap, ◌∙◌, subst, inl, inr, arith}
+use Rattle.std.proofs.Common.{◌≡◌, ℕ, ◌*◌, ◌<◌, Bool, true, false, cond, List, length, Some, None, Err, Option, sym, refl, ap, ◌∙◌, inl, inr, arith}
 use Rattle.std.proofs.lemmas.Bool.{eq-eqb, lt-ltb}
 use Rattle.device.specs.declared.faults.Fault.{Fault}
 use Rattle.device.specs.declared.faults.Refusal.{Refusal}
@@ -7,7 +7,7 @@ use Rattle.device.specs.declared.faults.Refusal.TheVariants.{PowerOff, Torn, Bla
 use Rattle.device.specs.Cells.{reads, Early}
 use Rattle.device.specs.Calls.{Halted}
 use Rattle.device.specs.Faults.{chip_fault}
-use Rattle.device.specs.Chips.{Note, State, Pages, Reads, read_refusal, read_at, page_count}
+use Rattle.device.specs.Chips.{State, Pages, Reads, read_at}
 use Rattle.device.specs.Chips.State.{blank, torn, held}
 use Rattle.recovery.specs.Looking.{Quiet, Lost}
 

@@ -1,13 +1,13 @@
 -- What recovery finds is one thing: it is found stage by stage, and each stage has one outcome.
-use Rattle.std.proofs.Common.{◌≡◌, ℕ, suc, ◌<◌, ◌≤◌, ◌⊎◌, Ok, Err, Result, refl, inl, inr}
+use Rattle.std.proofs.Common.{◌≡◌, ℕ, ◌≤◌, Ok, Err, Result, refl, inl, inr}
 use Rattle.device.specs.declared.faults.Fault.{Fault}
 use Rattle.device.specs.Chips.{State}
 use Rattle.layout.specs.declared.areas.Area.{Area}
 use Rattle.table.specs.Tables.{Table}
-use Rattle.recovery.specs.Recovering.{Found, Recovered, Failed, Recovers}
+use Rattle.recovery.specs.Recovering.{Found, Recovered, Recovers}
 use Rattle.recovery.specs.Recovering.Failed.{no_trailer, first_trailer, second_trailer, same_number, entry_page, log_page, data_page}
 use Rattle.recovery.specs.Answer.{OneAnswer, ZeroFollowsTwo, SameNumberRefused}
-use Rattle.recovery.proofs.Stages.{OneResult, Then, then_one, Bad-trailers, AreaStage, EntryStage, LogStage, DataStage, area_one, entry_one, log_one, data_one}
+use Rattle.recovery.proofs.Stages.{OneResult, Then, then_one, AreaStage, EntryStage, LogStage, DataStage, area_one, entry_one, log_one, data_one}
 use Rattle.recovery.proofs.Stages.Bad-trailers.{none, first, second, same}
 
 module _ (D : ℕ) (s : ℕ → State) where

@@ -1,16 +1,15 @@
 -- The entry pages of a checkpoint, read one after another: what a further page adds, and why one that does not fit stops the reading.
-use Rattle.std.proofs.Common.{◌≡◌, ℕ, suc, ◌+◌, ◌-◌, ◌*◌, ◌<◌, ◌≤◌, min, Bool, true, false, ◌⊎◌, List, ◌++◌, length, get_or, take, drop, Decides, sym, refl, ap, ◌∙◌, subst, ap₂, inl, inr, ⊎_elim, add-one, arith, take-add}
+use Rattle.std.proofs.Common.{◌≡◌, ℕ, suc, ◌+◌, ◌-◌, ◌*◌, ◌<◌, ◌≤◌, min, Bool, true, false, ◌⊎◌, List, ◌++◌, length, take, drop, Decides, sym, refl, ap, ◌∙◌, subst, ap₂, inl, inr, ⊎_elim, add-one, arith, take-add}
 use mathlib.Core.Path.{fun_ext}
 use Rattle.std.proofs.ByRecursion.{All-take, All-drop, All-append}
 use Rattle.std.proofs.lemmas.List.{length-take, length-drop, get_or-take, get_or_past, drop-take, take-take}
 use Rattle.std.proofs.lemmas.Bool.{cases_eq, cases_lt, true≢false, false≢true}
-use Rattle.std.specs.List.{AllByRecursion as All}
+use Rattle.std.specs.List.{AllByRecursion}
 use Rattle.device.specs.declared.faults.Fault.{Fault}
 use Rattle.device.specs.declared.faults.Refusal.TheVariants.{Breach}
 use Rattle.device.specs.Chips.{Note, State, Pages}
 use Rattle.device.specs.Chips.State.{held}
 use Rattle.layout.specs.declared.areas.Area.{Area}
-use Rattle.layout.specs.declared.entries.Entry.{Entry}
 use Rattle.layout.specs.Entries.{entry_bytes, ProperEntry}
 use Rattle.layout.specs.Geometry.{entry_pages, entry_page_at}
 use Rattle.layout.specs.Pages.{entry_part, entry_note, entry_data, EntriesRead}
@@ -36,12 +35,12 @@ part_in_front t i n l = sym (drop-take (64 * i) 64 t) ∙ ap (drop (64 * i)) (sy
 part_front : (t u : Table) (i n : ℕ) → 64 * i + 64 ≤ n → take n u ≡ take n t → entry_part u i ≡ entry_part t i
 part_front t u i n l e = part_in_front u i n l ∙ ap (λ z. drop (64 * i) (take (64 * i + 64) z)) e ∙ sym (part_in_front t i n l)
 
-all_part : (t : Table) (i n : ℕ) → 64 * i + 64 ≤ n → All ProperEntry (take n t) → All ProperEntry (entry_part t i)
+all_part : (t : Table) (i n : ℕ) → 64 * i + 64 ≤ n → AllByRecursion ProperEntry (take n t) → AllByRecursion ProperEntry (entry_part t i)
 all_part t i n l h =
-    subst (All ProperEntry) (sym (part_in_front t i n l)) (All-drop ProperEntry (64 * i) (take (64 * i + 64) (take n t)) (All-take ProperEntry (64 * i + 64) (take n t) h))
+    subst (AllByRecursion ProperEntry) (sym (part_in_front t i n l)) (All-drop ProperEntry (64 * i) (take (64 * i + 64) (take n t)) (All-take ProperEntry (64 * i + 64) (take n t) h))
 
 -- parts of tables as long as each other, with the same page
-same_part : (t u : Table) (j : ℕ) → length t ≡ length u → All ProperEntry (entry_part t j) → All ProperEntry (entry_part u j) → entry_data t j ≡ entry_data u j
+same_part : (t u : Table) (j : ℕ) → length t ≡ length u → AllByRecursion ProperEntry (entry_part t j) → AllByRecursion ProperEntry (entry_part u j) → entry_data t j ≡ entry_data u j
     → entry_part t j ≡ entry_part u j
 same_part t u j l p q e =
     let same : length (entry_part t j) ≡ length (entry_part u j) =
@@ -107,8 +106,8 @@ module _ (D : ℕ) (s : ℕ → State) (area : Area) (j : ℕ) (t : Table) (h : 
         (λ (ne : i ≡ j → ⊥). h.pages i (omega arith)
         ∙ ap (λ z. held (entry_note i) (Rattle.layout.specs.Pages.cells_page entry_bytes z)) (sym (part_front t u i (64 * j) (omega arith) front)))
         (cases_eq i j);
-    proper = subst (λ n. All ProperEntry (take n u)) next
-        (subst (All ProperEntry) (sym (take-add (64 * j) 64 u)) (All-append ProperEntry (take (64 * j) u) (entry_part u j) (subst (All ProperEntry) (sym front) h.proper) proper));
+    proper = subst (λ n. AllByRecursion ProperEntry (take n u)) next
+        (subst (AllByRecursion ProperEntry) (sym (take-add (64 * j) 64 u)) (All-append ProperEntry (take (64 * j) u) (entry_part u j) (subst (AllByRecursion ProperEntry) (sym front) h.proper) proper));
     distinct = subst (DistinctBelow u) next distinct;
   }
     where

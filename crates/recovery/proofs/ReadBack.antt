@@ -1,15 +1,14 @@
 -- A written checkpoint and log are read back as the table that they stand for.
-use Rattle.std.proofs.Common.{◌≡◌, ℕ, zero, suc, ◌+◌, ◌*◌, ◌<◌, ◌≤◌, ◌⊎◌, List, [], ◌∷◌, ◌++◌, length, Some, None, Option, sym, refl, ap, ◌∙◌, subst, inl, inr, arith}
+use Rattle.std.proofs.Common.{◌≡◌, ℕ, zero, suc, ◌*◌, ◌≤◌, Some, None, Option, sym, refl, ap, ◌∙◌, subst, inl, arith}
 use Rattle.std.proofs.lemmas.List.{take_all}
-use Rattle.std.specs.List.{AllByRecursion as All}
+use Rattle.std.specs.List.{AllByRecursion}
 use Rattle.device.specs.Chips.{State}
 use Rattle.layout.specs.declared.areas.Area.{Area}
-use Rattle.layout.specs.declared.records.Record.{Record}
 use Rattle.layout.specs.Entries.{ProperEntry}
-use Rattle.layout.specs.Geometry.{entry_pages, log_pages, log_page_at}
+use Rattle.layout.specs.Geometry.{entry_pages, log_pages}
 use Rattle.table.specs.Tables.{Table, replayed}
 use Rattle.table.proofs.Changing.{replayed_append, replayed_breach}
-use Rattle.recovery.specs.Recovering.{Found, Entered, LogStep, Logged, Backed, Recovered}
+use Rattle.recovery.specs.Recovering.{Entered, LogStep, Logged, Backed, Recovered}
 use Rattle.recovery.specs.RoundTrip.{LogPage, page_state, page_records, ProperPage, records_upto, next_after, next_upto, Written, ReadsBack}
 use Rattle.recovery.specs.RoundTrip.LogPage.{unwritten, lost, written}
 use Rattle.recovery.proofs.OneAnswer.{finds_answer}
@@ -46,7 +45,7 @@ module _ (D : ℕ) (s : ℕ → State) (area : Area) (n : ℕ) (t : Table) (log 
   entered_written = record {
     long = w.long;
     pages = w.entries;
-    proper = subst (All ProperEntry) (sym (take_all (64 * entry_pages D) t (omega (arith, w.long)))) w.proper.entries;
+    proper = subst (AllByRecursion ProperEntry) (sym (take_all (64 * entry_pages D) t (omega (arith, w.long)))) w.proper.entries;
     distinct = λ i j a _ _ x y. w.proper.distinct i j a x y;
   }
 

@@ -1,21 +1,20 @@
 -- The stages of recovery, trailers, entries, log and data pages, each with one outcome only.
-use Rattle.std.proofs.Common.{◌≡◌, ℕ, zero, suc, ◌+◌, ◌*◌, ◌/◌, ◌%◌, ◌<◌, ◌≤◌, Bool, true, false, ◌⊎◌, List, length, take, Some, None, Ok, Err, Option, Result, sym, refl, ap, ◌∙◌, subst, ap₂, subst₂, inl, inr, ⊎_elim, arith}
+use Rattle.std.proofs.Common.{◌≡◌, ℕ, zero, suc, ◌+◌, ◌*◌, ◌%◌, ◌<◌, ◌≤◌, ◌⊎◌, take, Some, Ok, Err, Result, sym, refl, ap, ◌∙◌, subst, ap₂, subst₂, inl, inr, ⊎_elim, arith}
 use Rattle.std.proofs.ByRecursion.{All-take}
 use Rattle.std.proofs.lemmas.List.{take_all, take-take}
-use Rattle.std.proofs.lemmas.Bool.{cases_eq, cases_order}
-use Rattle.std.specs.List.{AllByRecursion as All}
+use Rattle.std.proofs.lemmas.Bool.{cases_eq}
+use Rattle.std.specs.List.{AllByRecursion}
 use Rattle.device.specs.declared.faults.Fault.{Fault}
 use Rattle.device.specs.declared.faults.Refusal.TheVariants.{NoCheckpoint, Breach}
-use Rattle.device.specs.Chips.{Note, State, data_page_at}
+use Rattle.device.specs.Chips.{State, data_page_at}
 use Rattle.device.specs.Chips.State.{blank, torn, held}
 use Rattle.layout.specs.declared.areas.Area.{Area}
 use Rattle.layout.specs.declared.areas.Area.TheVariants.{One, Two}
-use Rattle.layout.specs.declared.records.Record.{Record}
 use Rattle.layout.specs.Entries.{ProperEntry}
 use Rattle.layout.specs.Geometry.{other_area, entry_pages, log_pages, entry_page_at, trailer_at, log_page_at}
 use Rattle.layout.specs.Laws.{Checkpoint, entry_page, trailer_page, log_page}
 use Rattle.layout.specs.Laws as laws
-use Rattle.layout.specs.Pages.{trailer_note, trailer_data, log_note, log_data, ProperLog}
+use Rattle.layout.specs.Pages.{trailer_note, trailer_data}
 use Rattle.layout.proofs.Unique.{one_checkpoint, one_log}
 use Rattle.table.specs.Tables.{Table, replayed}
 use Rattle.recovery.specs.Recovering.{Found, Counts, Numbered, Active, Entered, LogStep, Logged, Backed, Malformed, cache_fault}
@@ -164,7 +163,7 @@ module _ (D : ℕ) (s : ℕ → State) where
       record {
         long = h.long;
         pages = λ i x. h.pages i (omega arith);
-        proper = subst (All ProperEntry) (take-take (64 * j) (64 * k) t below) (All-take ProperEntry (64 * j) (take (64 * k) t) h.proper);
+        proper = subst (AllByRecursion ProperEntry) (take-take (64 * j) (64 * k) t below) (All-take ProperEntry (64 * j) (take (64 * k) t) h.proper);
         distinct = λ i i' a x y. h.distinct i i' a (omega arith) (omega arith);
       }
 
@@ -172,7 +171,7 @@ module _ (D : ℕ) (s : ℕ → State) where
     whole : (t : Table) → Entered D s area (entry_pages D) t → laws.ProperTable t
     whole t h = record {
       few = omega (arith, h.long);
-      each = subst (All ProperEntry) (take_all (64 * entry_pages D) t (omega (arith, h.long))) h.proper;
+      each = subst (AllByRecursion ProperEntry) (take_all (64 * entry_pages D) t (omega (arith, h.long))) h.proper;
     }
 
     checkpoint : (t : Table) → Entered D s area (entry_pages D) t → Checkpoint s area t n

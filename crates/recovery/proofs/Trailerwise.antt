@@ -1,16 +1,16 @@
 -- What the two trailers say, once both have been looked at.
-use Rattle.std.proofs.Common.{◌≡◌, ℕ, ◌+◌, ◌%◌, ◌<◌, true, ◌⊎◌, List, Some, None, Ok, Err, Option, Result, sym, refl, ap, ◌∙◌, subst, inl, inr, arith}
+use Rattle.std.proofs.Common.{◌≡◌, ℕ, true, ◌⊎◌, List, Some, None, Ok, Err, Option, Result, sym, refl, ap, ◌∙◌, subst, inl, inr}
 use mathlib.Core.Path.{fun_ext}
 use Rattle.device.specs.declared.faults.Fault.{Fault}
-use Rattle.device.specs.declared.faults.Refusal.TheVariants.{NoCheckpoint, Breach}
+use Rattle.device.specs.declared.faults.Refusal.TheVariants.{Breach}
 use Rattle.device.specs.Chips.{Note, State, Pages}
-use Rattle.device.specs.Chips.State.{blank, torn, held}
+use Rattle.device.specs.Chips.State.{held}
 use Rattle.layout.specs.declared.areas.Area.{Area}
 use Rattle.layout.specs.declared.areas.Area.TheVariants.{One, Two}
 use Rattle.layout.specs.Geometry.{trailer_at}
 use Rattle.layout.specs.Pages.{trailer_note, trailer_data, TrailerRead}
 use Rattle.recovery.specs.Recovering.{cache_fault, Counts, Numbered, Active, Malformed, Failed}
-use Rattle.recovery.specs.Recovering.Failed.{no_trailer, first_trailer, second_trailer, same_number}
+use Rattle.recovery.specs.Recovering.Failed.{no_trailer, second_trailer, same_number}
 use Rattle.recovery.specs.Looking.{shown, Quiet, Stage, Lost}
 use Rattle.recovery.specs.Trailers.{TrailerIs, Judged, Chosen}
 use Rattle.recovery.proofs.Lookwise.{quiet_shown}

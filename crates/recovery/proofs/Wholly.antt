@@ -1,11 +1,11 @@
 -- The stages of recovery, put together.
-use Rattle.std.proofs.Common.{◌≡◌, ℕ, zero, suc, ◌+◌, ◌-◌, ◌*◌, ◌<◌, ◌≤◌, Bool, true, false, cond, ◌⊎◌, List, [], ◌∷◌, ◌++◌, length, take, drop, Some, None, Ok, Err, Option, Result, sym, refl, ap, ◌∙◌, subst, inl, inr, ⊎_elim, arith}
+use Rattle.std.proofs.Common.{◌≡◌, ℕ, zero, suc, ◌-◌, ◌*◌, ◌<◌, ◌≤◌, true, ◌⊎◌, List, [], ◌∷◌, ◌++◌, length, drop, Some, None, Ok, Err, Option, Result, sym, refl, ap, ◌∙◌, subst, inl, inr, ⊎_elim, arith}
 use mathlib.Core.Path.{fun_ext}
 use Rattle.std.proofs.lemmas.List.{take_all, get_or_past, length-append, length-drop}
 use Rattle.std.proofs.lemmas.Bool.{cases_lt, true≢false}
-use Rattle.std.specs.List.{AllByRecursion as All}
+use Rattle.std.specs.List.{AllByRecursion}
 use Rattle.device.specs.declared.faults.Fault.{Fault}
-use Rattle.device.specs.Chips.{State, Pages, data_page_at}
+use Rattle.device.specs.Chips.{State, Pages}
 use Rattle.device.specs.Chips.State.{blank, torn, held}
 use Rattle.layout.specs.declared.areas.Area.{Area}
 use Rattle.layout.specs.declared.records.Record.{Record}
@@ -16,7 +16,7 @@ use Rattle.layout.specs.Entries.{ProperEntry}
 use Rattle.layout.specs.Geometry.{geometry_refusal, data_pages, entry_pages, log_pages, log_page_at}
 use Rattle.table.specs.Tables.{Table, empty, entry_at, holds, held as is_held_lem, without, cleaned, entered, put, apply, replayed, ProperTable}
 use Rattle.table.proofs.Changing.{made_by, length_without, length_cleaned, length_entered, replayed_breach}
-use Rattle.recovery.specs.Recovering.{Found, Active, Entered, LogStep, Logged, Backed, Recovered, Failed}
+use Rattle.recovery.specs.Recovering.{Active, Entered, LogStep, Logged, Backed, Recovered, Failed}
 use Rattle.recovery.specs.Recovering.Failed.{entry_page, log_page, data_page}
 use Rattle.recovery.specs.declared.restored.Restored.{Restored}
 use Rattle.recovery.specs.Restoring.{found_of, Restores}
@@ -60,7 +60,7 @@ logged_length D s area (suc j) t u m (v, n, h, x) = step_length (s (log_page_at 
 -- a checkpoint that was read whole is a proper table
 pub entered_proper : (D : ℕ) (s : ℕ → State) (area : Area) (t : Table) → Entered D s area (entry_pages D) t → ProperTable t
 entered_proper D s area t h = record {
-  entries = subst (All ProperEntry) (take_all (64 * entry_pages D) t (omega (arith, h.long))) h.proper;
+  entries = subst (AllByRecursion ProperEntry) (take_all (64 * entry_pages D) t (omega (arith, h.long))) h.proper;
   distinct = λ i j a hi hj. h.distinct i j a (inside a i hi) (inside a j hj) hi hj;
 }
   where

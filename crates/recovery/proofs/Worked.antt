@@ -1,8 +1,8 @@
 -- The worked examples, computed.
-use Rattle.std.proofs.Common.{◌≡◌, Some, None, sym, refl, ap, subst, arith}
-use Rattle.table.specs.Tables.{Table, entry, empty, empty_table, entry_at, mark_of, replayed}
+use Rattle.std.proofs.Common.{◌≡◌, Some, refl, subst}
+use Rattle.table.specs.Tables.{Table, entry, empty, entry_at, mark_of}
 use Rattle.layout.specs.declared.entries.Mark.TheVariants.{Dirty}
-use Rattle.recovery.specs.Examples.{WorkedExamples, put_clean, put_dirty, drop_of}
+use Rattle.recovery.specs.Examples.{WorkedExamples}
 use Rattle.recovery.proofs.OneAnswer.{zero_follows_two, same_number_refused}
 
 same_table : (t u : Table) → Some t ≡ Some u → t ≡ u

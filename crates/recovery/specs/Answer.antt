@@ -1,5 +1,5 @@
 -- What recovery finds is one thing; and two examples of how the numbers of the trailers decide.
-use Rattle.std.specs.Prelude.{◌≡◌, ℕ, ◌≤◌, Ok, Err, Result}
+use Rattle.std.specs.Prelude.{◌≡◌, ℕ, ◌≤◌, Err, Result}
 use Rattle.device.specs.declared.faults.Fault.{Fault}
 use Rattle.device.specs.declared.faults.Refusal.TheVariants.{Breach}
 use Rattle.device.specs.Chips.{State}

@@ -1,6 +1,6 @@
 -- The entry pages of a checkpoint, read one after another.
 use Rattle.std.specs.Prelude.{◌≡◌, ℕ, suc, ◌+◌, ◌*◌, ◌<◌, Bool, true, false, length, take}
-use Rattle.std.specs.List.{AllByRecursion as All}
+use Rattle.std.specs.List.{AllByRecursion}
 use Rattle.device.specs.declared.faults.Fault.{Fault}
 use Rattle.device.specs.declared.faults.Refusal.TheVariants.{Breach}
 use Rattle.device.specs.Chips.{State}
@@ -15,10 +15,10 @@ use Rattle.recovery.specs.Recovering.{cache_fault, DistinctBelow, Entered}
 -- The page is entry page j of the table u, which is the table t up to there and holds no address twice so far; or it is that of no such table.
 abbrev pub Taken : State → ℕ → Table → Bool → Table → Type 0
 Taken page j t true u =
-    (page ≡ held (entry_note j) (entry_data u j)) × All ProperEntry (entry_part u j) × (take (64 * j) u ≡ take (64 * j) t) × (length u ≡ length t)
+    (page ≡ held (entry_note j) (entry_data u j)) × AllByRecursion ProperEntry (entry_part u j) × (take (64 * j) u ≡ take (64 * j) t) × (length u ≡ length t)
     × DistinctBelow u (64 * j + 64)
 Taken page j t false u =
-    (v : Table) → length v ≡ length t → take (64 * j) v ≡ take (64 * j) t → page ≡ held (entry_note j) (entry_data v j) → All ProperEntry (entry_part v j)
+    (v : Table) → length v ≡ length t → take (64 * j) v ≡ take (64 * j) t → page ≡ held (entry_note j) (entry_data v j) → AllByRecursion ProperEntry (entry_part v j)
     → DistinctBelow v (64 * j + 64) → ⊥
 
 -- an entry page of the area does not fit those before it: the first such

@@ -1,6 +1,6 @@
 -- Worked examples of the formats and of replay, in one statement.
-use Rattle.std.specs.Prelude.{◌≡◌, ℕ, List, [], ◌∷◌, Some, None}
-use Rattle.layout.specs.declared.entries.Mark.TheVariants.{Empty, Dirty}
+use Rattle.std.specs.Prelude.{◌≡◌, ℕ, [], ◌∷◌, Some, None}
+use Rattle.layout.specs.declared.entries.Mark.TheVariants.{Dirty}
 use Rattle.layout.specs.declared.records.Record.{Record}
 use Rattle.layout.specs.declared.records.Record.TheVariants.{PutClean, PutDirty, Drop}
 use Rattle.layout.specs.Geometry.{Sizes}

@@ -1,11 +1,11 @@
 -- What recovery finds on a chip, by what its pages read: trailers, entries, log, data pages, in this order, up to the first breach.
-use Rattle.std.specs.Prelude.{◌≡◌, ℕ, zero, suc, ◌+◌, ◌*◌, ◌%◌, ◌<◌, ◌≤◌, Bool, true, false, ◌⊎◌, List, length, take, Some, None, Ok, Err, Option, Result}
-use Rattle.std.specs.List.{AllByRecursion as All}
+use Rattle.std.specs.Prelude.{◌≡◌, ℕ, zero, suc, ◌+◌, ◌*◌, ◌%◌, ◌<◌, true, ◌⊎◌, List, length, take, Some, Ok, Err, Result}
+use Rattle.std.specs.List.{AllByRecursion}
 use Rattle.device.specs.declared.faults.Fault.{Fault}
 use Rattle.device.specs.declared.faults.Layer.TheVariants.{Cache}
 use Rattle.device.specs.declared.faults.Refusal.{Refusal}
 use Rattle.device.specs.declared.faults.Refusal.TheVariants.{NoCheckpoint, Breach}
-use Rattle.device.specs.Chips.{Note, State, data_page_at}
+use Rattle.device.specs.Chips.{State, data_page_at}
 use Rattle.device.specs.Chips.State.{blank, torn, held}
 use Rattle.layout.specs.declared.areas.Area.{Area}
 use Rattle.layout.specs.declared.areas.Area.TheVariants.{One, Two}
@@ -56,7 +56,7 @@ DistinctBelow t k = (i j a : ℕ) → i < k → j < k → holds a (entry_at t i)
 pub record Entered (D : ℕ) (s : ℕ → State) (area : Area) (j : ℕ) (t : Table) : Type 0 where
   pub long : length t ≡ D
   pub pages : (i : ℕ) → i < j → s (entry_page_at area i) ≡ held (entry_note i) (entry_data t i)
-  pub proper : All ProperEntry (take (64 * j) t)
+  pub proper : AllByRecursion ProperEntry (take (64 * j) t)
   pub distinct : DistinctBelow t (64 * j)
 
 -- Log

@@ -1,11 +1,11 @@
 -- What the whole of recovery answers.
-use Rattle.std.specs.Prelude.{◌≡◌, ℕ, true, false, ◌⊎◌, Some, None, Ok, Err, Option, Result}
+use Rattle.std.specs.Prelude.{◌≡◌, true, ◌⊎◌, Some, None, Ok, Err, Result}
 use Rattle.device.specs.declared.faults.Fault.{Fault}
 use Rattle.device.specs.Chips.{Pages}
 use Rattle.layout.specs.Geometry.{data_pages, geometry_refusal}
 use Rattle.table.specs.Views.{table_of}
 use Rattle.recovery.specs.declared.restored.Restored.{Restored}
-use Rattle.recovery.specs.Recovering.{Found, Recovered, Failed, Recovers}
+use Rattle.recovery.specs.Recovering.{Found, Recovers}
 use Rattle.recovery.specs.Looking.{shown, Lost}
 
 abbrev pub found_of : Restored → Found

@@ -2,7 +2,7 @@
 use Rattle.std.specs.Prelude.{◌≡◌, ℕ, zero, suc, ◌<◌, ◌≤◌, List, [], ◌++◌, length, Some, Ok, Result}
 use Rattle.device.specs.declared.faults.Fault.{Fault}
 use Rattle.device.specs.Chips.{State}
-use Rattle.device.specs.Chips.State.{blank, torn, held}
+use Rattle.device.specs.Chips.State.{blank, torn}
 use Rattle.layout.specs.declared.areas.Area.{Area}
 use Rattle.layout.specs.declared.records.Record.{Record}
 use Rattle.layout.specs.Geometry.{other_area, entry_pages, log_pages, entry_page_at, trailer_at, log_page_at}

@@ -1,4 +1,6 @@
 // Recovery of the mapping table from a chip.
+#![tactic(auto)]
+
 mod answer;
 mod checkpoint;
 mod data_pages;

@@ -18,7 +18,7 @@ use Rattle.crash.proofs.Cuts.{first_small, safe_steps}
 use Rattle.journal.specs.Notes.{Noted}
 use Rattle.journal.specs.Points.{point, Left}
 use Rattle.journal.specs.Ready.{Ready}
-use Rattle.space.specs.Rooms.{Keeps, Placed, Places}
+use Rattle.space.specs.Rooms.{Keeps, Places}
 use Rattle.journal.specs.Steps.{Fails}
 use Rattle.space.specs.Worlds.{World, world, is_blank, blank_page, flags, past, placed}
 use Rattle.space.specs.declared.blanks.Space.{Space}

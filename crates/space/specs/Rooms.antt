@@ -1,9 +1,9 @@
 -- Where a new page comes from, and what making room for it answers and leaves.
-use Rattle.std.specs.Prelude.{◌≡◌, ℕ, ◌<◌, Bool, true, false, cond, ◌⊎◌, List, Some, None, Ok, Err, Option, Result, ◌==◌}
+use Rattle.std.specs.Prelude.{◌≡◌, ℕ, ◌<◌, true, false, cond, ◌⊎◌, List, Some, None, Ok, Err, Option, Result, ◌==◌}
 use Rattle.device.specs.declared.faults.Fault.{Fault}
 use Rattle.device.specs.declared.places.DataPage.{DataPage}
 use Rattle.device.specs.Cells.{Cell, Early}
-use Rattle.device.specs.Cells.Cell.{settled, unsettled}
+use Rattle.device.specs.Cells.Cell.{unsettled}
 use Rattle.device.specs.Chips.{State, Pages, data_page_at}
 use Rattle.device.specs.Chips.State.{blank, held}
 use Rattle.layout.specs.Pages.{data_note}

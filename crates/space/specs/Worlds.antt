@@ -1,5 +1,5 @@
 -- What the chip's pages, the journal and the cursor are together, and what a commit and a reclaim make of them.
-use Rattle.std.specs.Prelude.{◌≡◌, ℕ, suc, ◌+◌, ◌%◌, ◌<◌, Bool, true, false, cond, List, length, take, ◌==◌, slice_index_or}
+use Rattle.std.specs.Prelude.{◌≡◌, ℕ, ◌+◌, ◌%◌, ◌<◌, Bool, true, false, cond, List, take, ◌==◌, slice_index_or}
 use Rattle.device.specs.Chips.{State, Pages, block_of, data_page_at}
 use Rattle.device.specs.Chips.State.{blank, torn, held}
 use Rattle.recovery.specs.Looking.{shown}

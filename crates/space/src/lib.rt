@@ -1,4 +1,6 @@
 // The data pages of a chip: which are blank, which one is written next, and how an erase block is reclaimed.
+#![tactic(auto)]
+
 mod blanks;
 mod pages;
 mod rooms;

@@ -4,7 +4,7 @@ use lib.ListN.{get_or-map, length-replicate, get_or-replicate}
 use Rattle.std.proofs.ByRecursion.{All-from_get_or}
 use Rattle.std.proofs.lemmas.List.{get_or_past, get_or-set_same, get_or-set_other, length-set, length-map, ext_get_or}
 use Rattle.std.proofs.lemmas.Bool.{and_parts, ltb-true, eqb-true, both_ways, cases_Bool, cases_eq, cases_lt, cond-true, cond-false, cond_both}
-use Rattle.std.specs.List.{AllByRecursion as All}
+use Rattle.std.specs.List.{AllByRecursion}
 use Rattle.layout.specs.declared.entries.Entry.{Entry}
 use Rattle.layout.specs.declared.entries.Mark.{Mark}
 use Rattle.layout.specs.declared.entries.Mark.TheVariants.{Empty, Clean, Dirty}
@@ -241,7 +241,7 @@ next_keeps (Some t) r n from small u h =
     let q = from t refl in let k = apply_keeps t r u q.0 small h in (k.0, k.1 ∙ q.1)
 
 -- and so do records one after another
-pub replayed_keeps : (o : Option Table) (rs : List Record) (n : ℕ) → ((t : Table) → o ≡ Some t → ProperTable t × (length t ≡ n)) → All ProperRecord rs → (u : Table) → replayed o rs ≡ Some u → ProperTable u × (length u ≡ n)
+pub replayed_keeps : (o : Option Table) (rs : List Record) (n : ℕ) → ((t : Table) → o ≡ Some t → ProperTable t × (length t ≡ n)) → AllByRecursion ProperRecord rs → (u : Table) → replayed o rs ≡ Some u → ProperTable u × (length u ≡ n)
 replayed_keeps o [] n from small u h = from u h
 replayed_keeps o (r ∷ rs) n from small u h = replayed_keeps (next_table o r) rs n (next_keeps o r n from small.0) small.1 u h
 

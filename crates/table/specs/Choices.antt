@@ -1,5 +1,5 @@
 -- The choices that the table makes: a page to write, an erase block to reclaim, an erase block to write back.
-use Rattle.std.specs.Prelude.{◌≡◌, ℕ, zero, suc, ◌+◌, ◌-◌, ◌<◌, ◌≤◌, Bool, true, false, cond, ◌&&◌, List, [], ◌∷◌, length, Some, None, Option, ◌==◌, nat_eq, nat_le}
+use Rattle.std.specs.Prelude.{◌≡◌, ℕ, suc, ◌+◌, ◌-◌, ◌<◌, ◌≤◌, Bool, true, false, cond, ◌&&◌, [], ◌∷◌, Some, None, Option, ◌==◌, nat_eq, nat_le}
 use Rattle.layout.specs.declared.entries.Entry.{Entry}
 use Rattle.device.specs.Chips.{block_of, data_page_at}
 use Rattle.table.specs.Tables.{Table, has_mark, is_dirty}

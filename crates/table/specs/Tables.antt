@@ -1,7 +1,6 @@
 -- The mapping table as a list with an entry for each data page, and what each record makes of it.
-use Rattle.std.specs.Prelude.{◌≡◌, ℕ, ◌<◌, ◌≤◌, Bool, true, false, cond, not, ◌&&◌, ◌||◌, List, [], ◌∷◌, map, length, replicate, Some, None, Option, ◌==◌, nat_lt, slice_index_or, slice_set}
-use Rattle.std.specs.List.{AllByRecursion as All}
-use Rattle.device.specs.declared.places.DiskAddress.{DiskAddress}
+use Rattle.std.specs.Prelude.{◌≡◌, ℕ, Bool, true, false, cond, not, ◌&&◌, ◌||◌, List, [], ◌∷◌, map, length, replicate, Some, None, Option, ◌==◌, nat_lt, slice_index_or, slice_set}
+use Rattle.std.specs.List.{AllByRecursion}
 use Rattle.layout.specs.declared.entries.Entry.{Entry}
 use Rattle.layout.specs.declared.entries.Mark.{Mark}
 use Rattle.layout.specs.declared.entries.Mark.TheVariants.{Empty, Clean, Dirty}
@@ -93,7 +92,7 @@ replayed o (r ∷ rs) = replayed (next_table o r) rs
 
 -- What every table keeps: its entries are such as may stand on flash, and no address is held twice.
 pub record ProperTable (t : Table) : Type 0 where
-  pub entries : All ProperEntry t
+  pub entries : AllByRecursion ProperEntry t
   pub distinct : (i j a : ℕ) → holds a (entry_at t i) ≡ true → holds a (entry_at t j) ≡ true → i ≡ j
 
 -- The same as tests, as a type keeps it: every entry has an address that fits its mark, and no address is held twice.

@@ -1,4 +1,6 @@
 // The mapping table: for each data page a mark and a disk address.
+#![tactic(auto)]
+
 mod changes;
 mod choices;
 mod lookups;

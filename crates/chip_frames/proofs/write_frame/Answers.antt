@@ -1,4 +1,4 @@
-use Rattle.std.proofs.Common.{◌≡◌, ℕ, ◌+◌, ◌-◌, ◌*◌, [], ◌∷◌, length, get_or, ap, ◌∙◌, arith, rules}
+use Rattle.std.proofs.Common.{◌≡◌, ◌+◌, ◌-◌, ◌*◌, [], ◌∷◌, length, get_or, ap, ◌∙◌, arith, rules}
 use Rattle.chip_frames.proofs.Framing.{written_head, written_data, written_others, written_note}
 use Rattle.chip_frames.proofs.write_frame.Goals as goal
 

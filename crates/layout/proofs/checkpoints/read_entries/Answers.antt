@@ -1,4 +1,3 @@
-use Rattle.std.proofs.Common.{◌*◌}
 use Rattle.layout.proofs.Reading.{note_is, entries_read}
 use Rattle.layout.proofs.checkpoints.read_entries.Goals as goal
 

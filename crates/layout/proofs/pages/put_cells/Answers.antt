@@ -1,4 +1,4 @@
-use Rattle.std.proofs.Common.{◌≡◌, ◌<◌, ◌≤◌, length, ◌∙◌, arith}
+use Rattle.std.proofs.Common.{◌≡◌, ◌<◌, length, arith}
 use Rattle.layout.proofs.Cellwise.{put_more, put_all}
 use Rattle.layout.proofs.pages.put_cells.Goals as goal
 

@@ -1,6 +1,6 @@
 use Rattle.std.proofs.Common.{◌≡◌, ◌&&◌, take, sym, ◌∙◌, ap₂, rules}
 use Rattle.std.proofs.lemmas.Bool.{true≢false}
-use Rattle.table.specs.Tables.{entry_at, has_mark, held}
+use Rattle.table.specs.Tables.{entry_at, held}
 use Rattle.recovery.proofs.Distinctness.{distinct_more, not_distinct}
 use Rattle.recovery.proofs.checkpoint.distinct_in.Goals as goal
 

@@ -1,4 +1,4 @@
-use Rattle.std.proofs.Common.{◌≡◌, ap, ◌∙◌, subst, inr}
+use Rattle.std.proofs.Common.{ap, ◌∙◌, subst, inr}
 use Rattle.device.specs.declared.faults.Refusal.TheVariants.{Breach}
 use Rattle.layout.specs.Geometry.{data_pages}
 use Rattle.recovery.specs.Recovering.{cache_fault}

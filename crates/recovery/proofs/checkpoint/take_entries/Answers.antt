@@ -1,4 +1,4 @@
-use Rattle.std.proofs.Common.{◌≡◌, length, take, Decides, ◌∙◌, subst}
+use Rattle.std.proofs.Common.{◌≡◌, length, take, Decides, subst}
 use native.Mathlib.Nat.{sub-zero}
 use Rattle.device.specs.Chips.State.{held}
 use Rattle.recovery.specs.Recovering.{DistinctBelow}

@@ -1,4 +1,4 @@
-use Rattle.std.proofs.Common.{ap, subst}
+use Rattle.std.proofs.Common.{subst}
 use Rattle.layout.specs.Geometry.{data_pages}
 use Rattle.recovery.specs.Looking.{shown, Saw}
 use Rattle.recovery.proofs.Trailerwise.{judged_stage}

@@ -1,6 +1,6 @@
 use Rattle.std.proofs.Common.{sym, ◌∙◌, subst, rules}
 use Rattle.layout.specs.Geometry.{data_pages}
-use Rattle.recovery.specs.Looking.{shown, Stage}
+use Rattle.recovery.specs.Looking.{Stage}
 use Rattle.recovery.specs.Recovering.{Active, Recovered, Failed}
 use Rattle.recovery.specs.Restoring.{found_of}
 use Rattle.recovery.proofs.Lookwise.{quiet_then}

@@ -1,4 +1,4 @@
-use Rattle.std.proofs.Common.{◌≡◌, ℕ, length, get_or, rules}
+use Rattle.std.proofs.Common.{◌≡◌, length, get_or, rules}
 use Rattle.layout.specs.Entrywise.{entry_decodes}
 use Rattle.layout.proofs.entries.EntryCell.decode.Goals as goal
 

@@ -1,4 +1,4 @@
-use Rattle.std.proofs.Common.{◌≡◌, ℕ, length, get_or, rules}
+use Rattle.std.proofs.Common.{◌≡◌, length, get_or, rules}
 use Rattle.layout.specs.Records.{record_bytes, ProperRecord}
 use Rattle.layout.specs.Numbers.{decodes_some}
 use Rattle.layout.specs.Recordwise.{same_record, put_read, drop_read}

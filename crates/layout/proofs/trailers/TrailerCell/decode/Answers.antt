@@ -1,4 +1,4 @@
-use Rattle.std.proofs.Common.{◌≡◌, ℕ, length, get_or, rules}
+use Rattle.std.proofs.Common.{◌≡◌, length, get_or, rules}
 use Rattle.layout.specs.declared.areas.Area.TheVariants.{One, Two}
 use Rattle.layout.specs.Pages.{trailer_bytes, ProperTrailer}
 use Rattle.layout.specs.Numbers.{decodes_some}

@@ -18,7 +18,7 @@ invariant_of-self c =
     let small : a < 4294967296 = search rules in
     let q = enterable (table_of s) p m (sym c.if-not-may_enter.ensures) in
     let k = kept u.pages _ (entered (table_of s) p m a) (entered_there s u p m a c.empty_address.ensures.after q.1)
-        (entered_proper (table_of s) (table_proper s) p m a q.1 q.0 small) in
+    (entered_proper (table_of s) (table_proper s) p m a q.1 q.0 small) in
     record { whole = length-set u.entries p (entry m a) ∙ u.whole; within = u.within; fit = k.0; distinct = k.1 }
 
 pub returns : goal.returns

@@ -1,4 +1,4 @@
-use Rattle.std.proofs.Common.{◌≡◌, ◌≤◌, take, ap, arith}
+use Rattle.std.proofs.Common.{◌≤◌, take, ap, arith}
 use Rattle.table.proofs.Tablewise.{kept}
 use Rattle.table.proofs.mapping.MappingTable.of_entries.Goals as goal
 
