@@ -46,6 +46,10 @@ def defined(root):
                 body = False
             if line.startswith(("use ", "pub use ", "mod ", "pub mod ", "unfolding")):
                 continue
+            inner = re.match(rf"\s+(?:pub\s+)?(?:record|data)\s+({IDENT})", line)
+            if inner:
+                add(inner.group(1), path)
+                continue
             head = re.match(rf"((?:(?:unfoldable|abbrev|pub|data|record|ruleset)\s+)*)({IDENT})(.*)", line)
             if head and re.match(r"\S", line):
                 words, name, rest = head.groups()
@@ -71,12 +75,24 @@ def library_names(root):
 
 
 def respelled(name):
-    if "-" not in name.strip("-") or not re.match(r"[A-Za-z]", name):
+    if not re.search(r"[-_]", name.strip("-_")) or not re.match(r"[A-Za-z]", name) or name.isupper():
         return name
-    parts = name.split("-")
+    parts = re.split(r"[-_]", name)
     if name[0].isupper():
         return "".join(p[:1].upper() + p[1:] for p in parts)
     return "_".join(parts)
+
+
+def bound(text, library):
+    """Names with a dash that a file binds for itself: by a binder, a let, a λ or the left side of a clause."""
+    code = re.sub(r"--.*", "", text)
+    words = []
+    words += re.findall(r"[({]([^(){}:]+?)\s*:\s", code)
+    words += re.findall(r"\blet ([^\s:=(]+)\s*[:=]", code)
+    words += re.findall(r"λ ([^.(]+)\.", code)
+    words += re.findall(r"(?m)^\s*[A-Za-z][^\s:=]*((?:\s[^=:]*)?)\s=(?:\s|$)", code)
+    found = {w for group in words for w in re.findall(IDENT, group)}
+    return {w: respelled(w) for w in found if re.fullmatch(r"[A-Za-z][A-Za-z0-9']*(-[A-Za-z0-9']+)+", w) and w not in library}
 
 
 def turn_tokens(text, names):
@@ -144,7 +160,8 @@ def main(argv):
     for ends, turn in ((".antt", turn_antt), (".rt", turn_rt), (".edit", turn_tokens)):
         for path in files(os.path.join(root, "crates"), ends):
             text = read(path)
-            made = own_word(turn(text, names))
+            local = bound(text, library) if ends == ".antt" and os.path.basename(path) not in PROOF_FILES else {}
+            made = own_word(turn(text, {**local, **names}))
             if made != text:
                 with open(path, "w", encoding="utf-8") as f:
                     f.write(made)

@@ -12,7 +12,7 @@ use Rattle.cache.specs.declared.working.Cache.{Cache}
 use Rattle.journal.specs.Notes.{noted, pages_of}
 use Rattle.journal.specs.Steps.{Fails}
 use Rattle.engine.specs.Works.{Holding, Woken, StaysDark, Begun}
-use Rattle.cache.specs.Caches.{chip_of, Sound, PowerCall, bare_chip, Ready-to-open, Bare-sound, Granted, FormCall, AdoptCall}
+use Rattle.cache.specs.Caches.{chip_of, Sound, PowerCall, bare_chip, ReadyToOpen, BareSound, Granted, FormCall, AdoptCall}
 use Rattle.cache.proofs.Calling.{never, Done}
 
 -- what is in an option is one thing
@@ -34,15 +34,15 @@ module _ {C : Type 0} (meaning : C → Pages) (good : C → Type 0) where
 
   -- Form and adopt.
   pub record Started (d : BareCache C) (What : Type 0) : Type 0 where
-    pub sound : Bare-sound meaning good d
+    pub sound : BareSound meaning good d
     pub call : What
 
   -- a bare cache that keeps what was found is sound
   kept_sound : (d : BareCache C) (ch : C) (w : Memory) → d.chip ≡ ch → d.memory ≡ Some w → good ch → (meaning ch).size ≡ w.journal.geometry.blocks
-      → (t : Table) → Holding (pages_of w.journal) (meaning ch) (noted w.journal) w.space t → Bare-sound meaning good d
+      → (t : Table) → Holding (pages_of w.journal) (meaning ch) (noted w.journal) w.space t → BareSound meaning good d
   kept_sound d ch w chip memory still fits t h = record {
     chip = subst good (sym chip) still;
-    memory = λ v e. subst (Ready-to-open meaning d) (same_in memory e) (record {
+    memory = λ v e. subst (ReadyToOpen meaning d) (same_in memory e) (record {
       fits = ap (λ x. (meaning x).size) chip ∙ fits;
       holding = (t, subst (λ x. Holding (pages_of w.journal) (meaning x) (noted w.journal) w.space t) (sym chip) h);
     });
@@ -54,7 +54,7 @@ module _ {C : Type 0} (meaning : C → Pages) (good : C → Type 0) where
       fits_own : (meaning ch).size ≡ (bare_chip meaning b).size → (meaning ch).size ≡ w.journal.geometry.blocks
       fits_own e = e ∙ sym fits ∙ ap (λ g. g.blocks) (sym own)
 
-      found_sound : (meaning ch).size ≡ (bare_chip meaning b).size → (t : Table) → Holding (data_pages size.blocks) (meaning ch) (noted w.journal) w.space t → Bare-sound meaning good d
+      found_sound : (meaning ch).size ≡ (bare_chip meaning b).size → (t : Table) → Holding (data_pages size.blocks) (meaning ch) (noted w.journal) w.space t → BareSound meaning good d
       found_sound e t h =
           kept_sound d ch w chip memory still (fits_own e) t
           (subst (λ g. Holding (data_pages g.blocks) (meaning ch) (noted w.journal) w.space t) (sym own) h)
@@ -78,7 +78,7 @@ module _ {C : Type 0} (meaning : C → Pages) (good : C → Type 0) where
     abbrev pub bared : BareCache C
     bared = record { chip = ch; memory = None; number = b.number }
 
-    bared_sound : Bare-sound meaning good bared
+    bared_sound : BareSound meaning good bared
     bared_sound = record { chip = still; memory = λ w e. absurd (never (sym e)) }
 
     module _ (f : Fault) (r : Result Permit Fault) (answer : r ≡ Err f) where

@@ -88,13 +88,13 @@ module _ {C : Type 0} (meaning : C → Pages) where
   bare_chip b = meaning b.chip
 
   -- what opening will hold in memory fits the chip
-  pub record Ready-to-open (b : BareCache C) (w : Memory) : Type 0 where
+  pub record ReadyToOpen (b : BareCache C) (w : Memory) : Type 0 where
     pub fits : (bare_chip b).size ≡ w.journal.geometry.blocks
     pub holding : (t : Table) × Holding (pages_of w.journal) (bare_chip b) (noted w.journal) w.space t
 
-  pub record Bare-sound (sound : C → Type 0) (b : BareCache C) : Type 0 where
+  pub record BareSound (sound : C → Type 0) (b : BareCache C) : Type 0 where
     pub chip : sound b.chip
-    pub memory : (w : Memory) → b.memory ≡ Some w → Ready-to-open b w
+    pub memory : (w : Memory) → b.memory ≡ Some w → ReadyToOpen b w
 
   -- this bare cache, as it is now, granted the permit
   pub record Granted (b : BareCache C) (p : Permit) : Type 0 where

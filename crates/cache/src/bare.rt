@@ -1,7 +1,7 @@
 // A cache on a chip that is not known to be formed. It takes form and adopt only.
 ghost use Rattle.std.specs.Prelude.{◌≡◌, Some};
 ghost use Rattle.engine.specs.declared.powering.Memory.{Memory};
-ghost use Rattle.cache.specs.Caches.{Bare-sound, Granted, Sound, FormCall, AdoptCall, Opens};
+ghost use Rattle.cache.specs.Caches.{BareSound, Granted, Sound, FormCall, AdoptCall, Opens};
 
 use crate::working::Cache;
 use device::{Chip, Fault};
@@ -26,7 +26,7 @@ impl<C: Chip> BareCache<C> {
     pub fn new(chip: C) -> BareCache<C>
         requires { C.Chip.sound chip }
         ensures chip { result.chip ≡ chip }
-        ensures sound { Bare-sound C.Chip.meaning C.Chip.sound result }
+        ensures sound { BareSound C.Chip.meaning C.Chip.sound result }
     {
         BareCache {
             chip,
@@ -37,8 +37,8 @@ impl<C: Chip> BareCache<C> {
 
     // Powers the chip on and forms it: what it held is gone.
     pub fn form(&mut self) -> Result<Permit, Fault>
-        requires { Bare-sound C.Chip.meaning C.Chip.sound self.old }
-        ensures sound { Bare-sound C.Chip.meaning C.Chip.sound self.new }
+        requires { BareSound C.Chip.meaning C.Chip.sound self.old }
+        ensures sound { BareSound C.Chip.meaning C.Chip.sound self.new }
         ensures forms { FormCall C.Chip.meaning self.old result self.new }
     {
         let geometry = Geometry::new(self.chip.blocks())?;
@@ -49,8 +49,8 @@ impl<C: Chip> BareCache<C> {
 
     // Powers the chip on and recovers the table that it holds.
     pub fn adopt(&mut self) -> Result<Permit, Fault>
-        requires { Bare-sound C.Chip.meaning C.Chip.sound self.old }
-        ensures sound { Bare-sound C.Chip.meaning C.Chip.sound self.new }
+        requires { BareSound C.Chip.meaning C.Chip.sound self.old }
+        ensures sound { BareSound C.Chip.meaning C.Chip.sound self.new }
         ensures adopts { AdoptCall C.Chip.meaning self.old result self.new }
     {
         let geometry = Geometry::new(self.chip.blocks())?;
@@ -74,7 +74,7 @@ impl<C: Chip> BareCache<C> {
 
     // A working cache. It cannot be refused: this very cache granted the permit.
     pub fn open(self, permit: Permit) -> Cache<C>
-        requires sound { Bare-sound C.Chip.meaning C.Chip.sound self }
+        requires sound { BareSound C.Chip.meaning C.Chip.sound self }
         requires granted { Granted C.Chip.meaning self permit }
         ensures sound { Sound C.Chip.meaning C.Chip.sound result }
         ensures opens { (w : Memory) → self.memory ≡ Some w → Opens C.Chip.meaning self w result }

@@ -112,8 +112,8 @@ one_sync_loses D small m area n t u j i x records h few free ok makes inside ear
 
 -- Erase before commit: the way in which every page is as it reads.
 pub erase_first_loses : (D : ℕ) → EraseFirstLoses D
-erase_first_loses D m m' area n t i h inside marked call held-still =
-    let found = held-still (λ q. reads (m'.cell q)) (λ q. ends_reads Tears (m'.cell q) (reads (m'.cell q)) refl) in
+erase_first_loses D m m' area n t i h inside marked call held_still =
+    let found = held_still (λ q. reads (m'.cell q)) (λ q. ends_reads Tears (m'.cell q) (reads (m'.cell q)) refl) in
     let (bytes, e) = found.1.backed i inside marked in
     not_held (reads (m'.cell (data_page_at i))) _ bytes ((chip_reads.after_erase m m' (block_of (data_page_at i)) call).0 (data_page_at i) refl) e
 

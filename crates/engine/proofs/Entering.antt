@@ -62,11 +62,11 @@ module _ (t : Table) (i : ℕ) (mark : Mark) (a : ℕ) where
       (cases_Bool (holds a e))
 
   pub entered_backed : (D : ℕ) (pages : ℕ → State) → i < length t → Backed pages t D → IsData (pages (data_page_at i)) a → Backed pages (entered t i mark a) D
-  entered_backed D pages inside backed data-here j l h =
+  entered_backed D pages inside backed data_here j l h =
       ⊎_elim
       (λ (e : j ≡ i).
       let at : entry_at (entered t i mark a) j ≡ entry mark a = ap (entry_at (entered t i mark a)) e ∙ entered_here t i mark a inside in
-      subst (IsData (pages (data_page_at j))) (sym (ap (λ x. x.address.0) at)) (subst (λ k. IsData (pages (data_page_at k)) a) (sym e) data-here))
+      subst (IsData (pages (data_page_at j))) (sym (ap (λ x. x.address.0) at)) (subst (λ k. IsData (pages (data_page_at k)) a) (sym e) data_here))
       (λ (ne : j ≢ i).
       let at = entered_stays j ne h in
       subst (IsData (pages (data_page_at j))) (sym (ap (λ x. x.address.0) at)) (backed j l (ap (λ x. has_mark x.mark) (sym at) ∙ h)))
@@ -114,7 +114,7 @@ put_staged dirty i a v v₁ r inside unmarked is after =
     after u (put_fits dirty i a v.table r inside unmarked is).1 ∙ ap (staging v u) is
 
 module _ (D : ℕ) (dirty : Bool) (i a : ℕ) (m : Pages) (v : Noted) (room : length v.staged < 64) (inside : i < D) (unmarked : marked_at v.table i ≡ false)
-    (data-here : IsData (shown m (data_page_at i)) a) (small : a < 4294967296) where
+    (data_here : IsData (shown m (data_page_at i)) a) (small : a < 4294967296) where
   put_ready : (t : Table) → Ready D m v t → Ready D m (with_put dirty i a v) t
   put_ready t h =
       let l : i < length v.table = subst (λ n. i < n) (sym h.long) inside in
@@ -135,7 +135,7 @@ module _ (D : ℕ) (dirty : Bool) (i a : ℕ) (m : Pages) (v : Noted) (room : le
         ahead = h.ahead;
         areas = h.areas;
         firm = h.firm;
-        backed = entered_backed v.table i (mark_for dirty) a D (shown m) l h.backed data-here;
+        backed = entered_backed v.table i (mark_for dirty) a D (shown m) l h.backed data_here;
         blanks = h.blanks;
       }
 

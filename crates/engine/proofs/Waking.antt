@@ -116,8 +116,8 @@ module _ (blocks : ℕ) (m m₁ m₂ m₃ : Pages) (fits : m.size ≡ blocks) (e
   awake r j sp (_, _, found) power agrees start is =
       let D = data_pages blocks in
       let f = found_of r in
-      let shown-same : shown m₁ ≡ shown m₃ = sym (moved m₁ m₃ quiet) in
-      let there : Recovered D (shown m₃) f = subst (λ s. Recovered D s f) shown-same (subst (λ b. Recovered (data_pages b) (shown m₁) f) (on.2.size ∙ fits) found) in
+      let shown_same : shown m₁ ≡ shown m₃ = sym (moved m₁ m₃ quiet) in
+      let there : Recovered D (shown m₃) f = subst (λ s. Recovered D s f) shown_same (subst (λ b. Recovered (data_pages b) (shown m₁) f) (on.2.size ∙ fits) found) in
       let large : m₃.size ≡ blocks = looked_size m m₁ m₃ on quiet ∙ fits in
       let ready : Ready D m₃ (recovered_as f) f.table =
       ready_found D m₃ f power (omega (arith, enough)) (omega (arith, few)) (ap data_pages (sym large)) (cut_settled m m₃ (looked_cut m m₁ m₃ on quiet)) there (table_proper r.table) in

@@ -14,7 +14,7 @@ use Rattle.cache.specs.Refusals.{unless_off, off_by}
 use Rattle.history.specs.Histories.{History, IsPowerOn}
 use Rattle.history.specs.Histories.Phase.{off}
 use Rattle.history.specs.Serving.{Serves, Plain, ReadServes, ExistsServes}
-use Rattle.history.specs.Following.{Follows-off}
+use Rattle.history.specs.Following.{FollowsOff}
 use Rattle.history.proofs.Outcomes.{Next, still_dark}
 
 -- while off the conditions refuse, and with that fault
@@ -24,11 +24,11 @@ off_refuses o other g f e k = let z : Some g ≡ Some f = subst (λ x. unless_of
 off_never : (o other : Option Fault) (g : Fault) → o ≡ Some g → unless_off o other ≡ None → ⊥
 off_never o other g e k = let z : Some g ≡ None = subst (λ x. unless_off x other ≡ None) e k in grind arith
 
-module _ {C : Type 0} (meaning : C → Pages) (h h' : History) (c : Cache C) (k : Follows-off meaning h h' c) (call : Call) where
+module _ {C : Type 0} (meaning : C → Pages) (h h' : History) (c : Cache C) (k : FollowsOff meaning h h' c) (call : Call) where
   same : (f : Fault) (d : Cache C) (other : Option Fault) → unless_off c.off other ≡ Some f → d ≡ c → Next meaning (off h h') call (Refused f) d
   same f d other r e =
       still_dark meaning h h' call f d (ap (λ x. refusal_number x.refusal) (off_refuses c.off other k.fault f k.power r) ∙ k.number)
-      (subst (Follows-off meaning h h') (sym e) k)
+      (subst (FollowsOff meaning h h') (sym e) k)
 
   off_refused : {W : Type 0} (other : Option Fault) (f : Fault) (d : Cache C) → ((unless_off c.off other ≡ Some f) × (d ≡ c)) ⊎ ((unless_off c.off other ≡ None) × (d.off ≡ off_by f) × W)
       → Next meaning (off h h') call (Refused f) d
@@ -42,7 +42,7 @@ module _ {C : Type 0} (meaning : C → Pages) (h h' : History) (c : Cache C) (k 
   off_plain other Is (Data page) d r never refuses = elim r [ ]
   off_plain other Is (Marks page len) d r never refuses = elim r [ ]
 
-module _ {C : Type 0} (meaning : C → Pages) (h h' : History) (c : Cache C) (k : Follows-off meaning h h' c) where
+module _ {C : Type 0} (meaning : C → Pages) (h h' : History) (c : Cache C) (k : FollowsOff meaning h h' c) where
   off_read : (a : DiskAddress) (len : ℕ) (x : Answer) (d : Cache C) → ReadServes meaning a.0 len c x d → Next meaning (off h h') (Read a len) x d
   off_read a len Done d r = elim r [ ]
   off_read a len (Marks page n) d r = elim r [ ]

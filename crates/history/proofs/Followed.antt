@@ -10,13 +10,13 @@ use Rattle.engine.specs.declared.powering.Memory.{Memory}
 use Rattle.engine.specs.Works.{Holding, Begun}
 use Rattle.cache.specs.declared.bare.BareCache.{BareCache}
 use Rattle.cache.specs.declared.working.Cache.{Cache}
-use Rattle.cache.specs.Caches.{Sound, Ready-to-open, Opens}
+use Rattle.cache.specs.Caches.{Sound, ReadyToOpen, Opens}
 use Rattle.history.specs.declared.calls.Call.{Call}
 use Rattle.history.specs.declared.calls.Answer.{Answer}
 use Rattle.history.specs.Histories.{Phase, Moves, Runs, at_first}
 use Rattle.history.specs.Histories.Phase.{on}
 use Rattle.history.specs.Serving.{Serves}
-use Rattle.history.specs.Following.{Agrees, Follows, Follows_on}
+use Rattle.history.specs.Following.{Agrees, Follows, FollowsOn}
 use Rattle.history.proofs.Moving.{moves}
 
 -- one call more
@@ -50,19 +50,19 @@ absent_all : (D : ℕ) (v : Noted) (pages : ℕ → State) → v ≡ formed D �
 absent_all D v pages e a = ap (λ w. held w.table a) e ∙ none_held D a
 
 -- a cache that opens on a formed chip follows the history in which every address is absent
-pub follows_at_first : {C : Type 0} (meaning : C → Pages) (m : Pages) (b : BareCache C) (w : Memory) (c : Cache C) → Ready-to-open meaning b w
-    → Begun (data_pages m.size) m (meaning b.chip) w.journal w.space → Opens meaning b w c → Follows_on meaning at_first c
+pub follows_at_first : {C : Type 0} (meaning : C → Pages) (m : Pages) (b : BareCache C) (w : Memory) (c : Cache C) → ReadyToOpen meaning b w
+    → Begun (data_pages m.size) m (meaning b.chip) w.journal w.space → Opens meaning b w c → FollowsOn meaning at_first c
 follows_at_first meaning m b w c ready begun opens =
     let pages = shown (meaning c.chip) in
     let t = (noted w.journal).table in
     let nothing : Agrees at_first t pages = absent_all (data_pages m.size) (noted w.journal) pages begun.as_formed in
     let sized : data_pages m.size ≡ pages_of w.journal = ap data_pages (sym begun.size ∙ ready.fits) in
-    let held-still : Holding (pages_of w.journal) (meaning b.chip) (noted w.journal) w.space t =
+    let held_still : Holding (pages_of w.journal) (meaning b.chip) (noted w.journal) w.space t =
     subst (λ D. Holding D (meaning b.chip) (noted w.journal) w.space t) sized begun.holding in
     record {
       power = opens.on;
       table = subst (λ j. Agrees at_first (noted j).table pages) (sym opens.journal) nothing;
       committed = t;
-      holding = rw (opens.chip, opens.journal, opens.space) held-still;
+      holding = rw (opens.chip, opens.journal, opens.space) held_still;
       agrees = nothing;
     }

@@ -9,7 +9,7 @@ use Rattle.history.specs.declared.calls.Answer.{Answer}
 use Rattle.history.specs.Histories.{History, Phase, Moves}
 use Rattle.history.specs.Histories.Phase.{on, off}
 use Rattle.history.specs.Serving.{Serves}
-use Rattle.history.specs.Following.{Follows, Follows_on, Follows-off}
+use Rattle.history.specs.Following.{Follows, FollowsOn, FollowsOff}
 use Rattle.history.proofs.Outcomes.{Next}
 use Rattle.history.proofs.Dark.{off_next}
 use Rattle.history.proofs.Waked.{on_waked, off_waked}
@@ -18,7 +18,7 @@ use Rattle.history.proofs.Remarked.{on_evict, on_clean, on_exists, on_sync}
 use Rattle.history.proofs.Wrote.{wrote_dirty, wrote_clean}
 
 module _ {C : Type 0} (meaning : C → Pages) (c d : Cache C) (size : d.journal.geometry ≡ c.journal.geometry) where
-  on_moves : (h : History) (call : Call) (x : Answer) → Follows_on meaning h c → Serves meaning c call x d → Next meaning (on h) call x d
+  on_moves : (h : History) (call : Call) (x : Answer) → FollowsOn meaning h c → Serves meaning c call x d → Next meaning (on h) call x d
   on_moves h (WriteDirty a bytes) x f r = wrote_dirty meaning (on h) c d a bytes x size f r
   on_moves h (WriteClean a bytes) x f r = wrote_clean meaning (on h) c d a bytes x size f r
   on_moves h (Read a len) x f r = on_read meaning h c d size f a len x r
@@ -28,7 +28,7 @@ module _ {C : Type 0} (meaning : C → Pages) (c d : Cache C) (size : d.journal.
   on_moves h Sync x f r = on_sync meaning h c d size f x r
   on_moves h PowerOn x f r = on_waked meaning c d size h f x r
 
-  off_moves : (h h' : History) (call : Call) (x : Answer) → Follows-off meaning h h' c → Serves meaning c call x d → Next meaning (off h h') call x d
+  off_moves : (h h' : History) (call : Call) (x : Answer) → FollowsOff meaning h h' c → Serves meaning c call x d → Next meaning (off h h') call x d
   off_moves h h' (WriteDirty a bytes) x f r = off_next meaning h h' c f (WriteDirty a bytes) x d (λ e. e) r
   off_moves h h' (WriteClean a bytes) x f r = off_next meaning h h' c f (WriteClean a bytes) x d (λ e. e) r
   off_moves h h' (Read a len) x f r = off_next meaning h h' c f (Read a len) x d (λ e. e) r

@@ -18,7 +18,7 @@ use Rattle.cache.specs.Refusals.{off_by}
 use Rattle.cache.specs.Caches.{chip_of, view_of}
 use Rattle.history.specs.Histories.{History, Phase, Moves, Says, step}
 use Rattle.history.specs.Histories.Phase.{on, off}
-use Rattle.history.specs.Following.{Agrees, Follows, Follows_on, Follows-off}
+use Rattle.history.specs.Following.{Agrees, Follows, FollowsOn, FollowsOff}
 use Rattle.history.proofs.Phasing.{moves_refused, moves_dark, stays_dark, lost_number, lost_off, same_size}
 
 -- no refusal has the number of a served call
@@ -49,18 +49,18 @@ module _ {C : Type 0} (meaning : C → Pages) where
   Next p call x d = (next : Phase) × Moves p call x next × Follows meaning next d
 
   -- a call that is done counts
-  pub done : (h : History) (call : Call) (d : Cache C) → Says h call Done → Follows_on meaning (step h call) d → Next (on h) call Done d
+  pub done : (h : History) (call : Call) (d : Cache C) → Says h call Done → FollowsOn meaning (step h call) d → Next (on h) call Done d
   done h call d says k = (on (step h call), (says, refl), k)
 
   -- one that is refused while on does not
-  pub refused : (h : History) (call : Call) (f : Fault) (d : Cache C) → eqb (refusal_number f.refusal) 1 ≡ false → Says h call (Refused f) → Follows_on meaning h d
+  pub refused : (h : History) (call : Call) (f : Fault) (d : Cache C) → eqb (refusal_number f.refusal) 1 ≡ false → Says h call (Refused f) → FollowsOn meaning h d
       → Next (on h) call (Refused f) d
   refused h call f d bright says k = (on h, moves_refused h call (Refused f) bright (never_zero f.refusal) says, k)
 
-  pub darkened : (h : History) (call : Call) (f : Fault) (d : Cache C) → refusal_number f.refusal ≡ 1 → Follows-off meaning h (step h call) d → Next (on h) call (Refused f) d
+  pub darkened : (h : History) (call : Call) (f : Fault) (d : Cache C) → refusal_number f.refusal ≡ 1 → FollowsOff meaning h (step h call) d → Next (on h) call (Refused f) d
   darkened h call f d e k = (off h (step h call), moves_dark h call (Refused f) e, k)
 
-  pub still_dark : (h h' : History) (call : Call) (f : Fault) (d : Cache C) → refusal_number f.refusal ≡ 1 → Follows-off meaning h h' d → Next (off h h') call (Refused f) d
+  pub still_dark : (h h' : History) (call : Call) (f : Fault) (d : Cache C) → refusal_number f.refusal ≡ 1 → FollowsOff meaning h h' d → Next (off h h') call (Refused f) d
   still_dark h h' call f d e k = (off h h', stays_dark h h' call (Refused f) e, k)
 
   -- power failed in the call: it counts wholly or not at all
@@ -76,7 +76,7 @@ module _ {C : Type 0} (meaning : C → Pages) where
   -- served, the cache follows by the table in memory and the committed one
   pub follows_on : (h : History) (c d : Cache C) → d.journal.geometry ≡ c.journal.geometry → d.off ≡ None → (u : Table)
       → Holding (pages_of c.journal) (chip_of meaning d) (view_of meaning d) d.space u → Agrees h (view_of meaning d).table (shown (chip_of meaning d))
-      → Agrees h u (shown (chip_of meaning d)) → Follows_on meaning h d
+      → Agrees h u (shown (chip_of meaning d)) → FollowsOn meaning h d
   follows_on h c d size power u holding a b = record {
     power = power;
     table = a;

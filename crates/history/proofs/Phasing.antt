@@ -14,7 +14,7 @@ use Rattle.history.specs.declared.calls.Call.{Call}
 use Rattle.history.specs.declared.calls.Answer.{Answer}
 use Rattle.history.specs.Histories.{History, step, number_of, dark, served, Says, IsPowerOn, Moves}
 use Rattle.history.specs.Histories.Phase.{on, off}
-use Rattle.history.specs.Following.{Agrees, Follows_on}
+use Rattle.history.specs.Following.{Agrees, FollowsOn}
 
 -- By the number of the answer.
 
@@ -49,7 +49,7 @@ module _ {C : Type 0} (meaning : C → Pages) (c d : Cache C) (size : d.journal.
   same_size = ap (λ g. data_pages g.blocks) size
 
   pub follows_again : (h : History) → d.off ≡ None → chip_of meaning d ≡ chip_of meaning c → view_of meaning d ≡ view_of meaning c → d.space ≡ c.space
-      → Follows_on meaning h c → Follows_on meaning h d
+      → FollowsOn meaning h c → FollowsOn meaning h d
   follows_again h power chip view space f = record {
     power = power;
     table =

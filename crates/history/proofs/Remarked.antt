@@ -25,7 +25,7 @@ use Rattle.cache.specs.Caches.{chip_of, view_of, EvictCall, CleanWork, CleanCall
 use Rattle.history.specs.Histories.{History, Says, step}
 use Rattle.history.specs.Histories.Phase.{on}
 use Rattle.history.specs.Serving.{Plain, ExistsServes}
-use Rattle.history.specs.Following.{Agrees, Follows_on}
+use Rattle.history.specs.Following.{Agrees, FollowsOn}
 use Rattle.history.proofs.Agreeing.{agrees_pages, agrees_without, agrees_lapsed, agrees_cleaned}
 use Rattle.engine.proofs.Flushing.{commit_apart, commit_table}
 use Rattle.journal.proofs.Leaving.{left_more}
@@ -72,7 +72,7 @@ exists_bright first len f e = go (leb 1 len && leb len 512) (leb (first + len) 4
     go true false e = let z : cache_fault first OutOfRange ≡ f = cc in ap (λ g. eqb (refusal_number g.refusal) 1) (sym z)
     go false c e = let z : cache_fault first BadSize ≡ f = cc in ap (λ g. eqb (refusal_number g.refusal) 1) (sym z)
 
-module _ {C : Type 0} (meaning : C → Pages) (h : History) (c d : Cache C) (size : d.journal.geometry ≡ c.journal.geometry) (k : Follows_on meaning h c) where
+module _ {C : Type 0} (meaning : C → Pages) (h : History) (c d : Cache C) (size : d.journal.geometry ≡ c.journal.geometry) (k : FollowsOn meaning h c) where
   abbrev D : ℕ
   D = pages_of c.journal
 
@@ -87,7 +87,7 @@ module _ {C : Type 0} (meaning : C → Pages) (h : History) (c d : Cache C) (siz
   when_on other f e = subst (λ o. unless_off o other ≡ Some f) k.power e
 
   unchanged : (call : Call) (f : Fault) → eqb (refusal_number f.refusal) 1 ≡ false → Says h call (Refused f) → d ≡ c → Next meaning (on h) call (Refused f) d
-  unchanged call f bright says e = refused meaning h call f d bright says (subst (Follows_on meaning h) (sym e) k)
+  unchanged call f bright says e = refused meaning h call f d bright says (subst (FollowsOn meaning h) (sym e) k)
 
   -- the committed table, and the one in memory, as points
   at_committed : (x : Point) → x ≡ point k.committed (shown (chip_of meaning c)) → Agrees h x.table x.pages
@@ -135,7 +135,7 @@ module _ {C : Type 0} (meaning : C → Pages) (h : History) (c d : Cache C) (siz
     lapsed t pages agrees = agrees_lapsed h t pages agrees a.0
 
     cleaned_served : d.off ≡ None → Cleans D a.0 (chip_of meaning c) (view_of meaning c) c.space (Ok tt) (chip_of meaning d) (view_of meaning d) → d.space ≡ c.space
-        → Follows_on meaning (step h (calls.Clean a)) d
+        → FollowsOn meaning (step h (calls.Clean a)) d
     cleaned_served power (_, e, keeps) space =
         let g = step h (calls.Clean a) in
         let (u, holding, is) = keeps k.committed k.holding in
@@ -145,13 +145,13 @@ module _ {C : Type 0} (meaning : C → Pages) (h : History) (c d : Cache C) (siz
         (agrees_cleaned h (view_of meaning c).table (shown (chip_of meaning c)) k.table a.0))
         (⊎_elim
         (λ same_table. agrees_turned g k.committed u before after same_table same (lapsed k.committed (shown (chip_of meaning c)) k.agrees))
-        (λ new-table. agrees_turned g (view_of meaning c).table u before after new-table same (lapsed (view_of meaning c).table (shown (chip_of meaning c)) k.table))
+        (λ new_table. agrees_turned g (view_of meaning c).table u before after new_table same (lapsed (view_of meaning c).table (shown (chip_of meaning c)) k.table))
         is)
 
-    clean_served : (mark : Mark) → d.off ≡ None → CleanWork meaning mark a.0 c (Ok tt) d → Follows_on meaning (step h (calls.Clean a)) d
+    clean_served : (mark : Mark) → d.off ≡ None → CleanWork meaning mark a.0 c (Ok tt) d → FollowsOn meaning (step h (calls.Clean a)) d
     clean_served Empty power r = elim r [ ]
     clean_served Clean power (_, e) =
-        subst (Follows_on meaning (step h (calls.Clean a))) (sym e)
+        subst (FollowsOn meaning (step h (calls.Clean a))) (sym e)
         (record {
           power = k.power;
           table = lapsed (view_of meaning c).table (shown (chip_of meaning c)) k.table;
@@ -182,7 +182,7 @@ module _ {C : Type 0} (meaning : C → Pages) (h : History) (c d : Cache C) (siz
     pub on_exists : (len : ℕ) (x : Answer) → ExistsServes meaning a.0 len c x d → Next meaning (on h) (calls.Exists a len) x d
     on_exists len Done r = elim r [ ]
     on_exists len (Data page) r = elim r [ ]
-    on_exists len (Marks page n) (e, _, _) = (on h, (tt, refl), subst (Follows_on meaning h) (sym e) k)
+    on_exists len (Marks page n) (e, _, _) = (on h, (tt, refl), subst (FollowsOn meaning h) (sym e) k)
     on_exists len (Refused f) (e, (buf, _, _, (r, _))) =
         unchanged (calls.Exists a len) f (exists_bright a.0 (length buf) f (subst (λ o. exists_refusal o a.0 (length buf) ≡ Some f) k.power r)) tt e
 

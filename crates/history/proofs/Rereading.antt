@@ -27,7 +27,7 @@ use Rattle.history.specs.Histories.{Slot, History, ReadsBack}
 use Rattle.history.specs.Histories.Slot.{absent, cached, kept}
 use Rattle.history.specs.Histories.Phase.{on}
 use Rattle.history.specs.Serving.{ReadServes}
-use Rattle.history.specs.Following.{PageHas, SlotIs, Agrees, Follows_on}
+use Rattle.history.specs.Following.{PageHas, SlotIs, Agrees, FollowsOn}
 use Rattle.journal.proofs.Leaving.{left_more}
 use Rattle.history.proofs.Outcomes.{AgreesOne, agrees_at, Next, refused, failed, follows_on}
 
@@ -73,14 +73,14 @@ bright : (t : Table) (a : ℕ) (f : Fault) → Why t a f → eqb (refusal_number
 bright t a f (inl e) = ap (λ n. eqb n 1) e
 bright t a f (inr (e, _)) = ap (λ n. eqb n 1) e
 
-module _ {C : Type 0} (meaning : C → Pages) (h : History) (c d : Cache C) (size : d.journal.geometry ≡ c.journal.geometry) (k : Follows_on meaning h c) where
+module _ {C : Type 0} (meaning : C → Pages) (h : History) (c d : Cache C) (size : d.journal.geometry ≡ c.journal.geometry) (k : FollowsOn meaning h c) where
   proper : ProperTable (view_of meaning c).table
   proper = k.holding.keeps.ready.proper
 
   -- a read that is served leaves the cache following
   read_on : Quiet (chip_of meaning c) (chip_of meaning d)
       → ((t : Table) → Holding (pages_of c.journal) (chip_of meaning c) (view_of meaning c) c.space t → Holding (pages_of c.journal) (chip_of meaning d) (view_of meaning c) c.space t)
-      → d.off ≡ None → view_of meaning d ≡ view_of meaning c → d.space ≡ c.space → Follows_on meaning h d
+      → d.off ≡ None → view_of meaning d ≡ view_of meaning c → d.space ≡ c.space → FollowsOn meaning h d
   read_on quiet keeps power view space =
       let shows = moved (chip_of meaning c) (chip_of meaning d) quiet in
       follows_on meaning h c d size power k.committed
@@ -96,7 +96,7 @@ module _ {C : Type 0} (meaning : C → Pages) (h : History) (c d : Cache C) (siz
   on_read a len (Refused f) (buf, after, _, (_, inl (r, e))) =
       let y = why (view_of meaning c).table a.0 (length buf) f (subst (λ o. read_refusal o (view_of meaning c).table a.0 (length buf) ≡ Some f) k.power r) in
       refused meaning h (Read a len) f d (bright (view_of meaning c).table a.0 f y)
-      (refused_back (h a.0) (view_of meaning c).table (shown (chip_of meaning c)) a.0 f (k.table a.0) y) (subst (Follows_on meaning h) (sym e) k)
+      (refused_back (h a.0) (view_of meaning c).table (shown (chip_of meaning c)) a.0 f (k.table a.0) y) (subst (FollowsOn meaning h) (sym e) k)
   on_read a len (Refused f) (buf, after, _, (_, inr (_, dark, (_, fails, left)))) =
       failed meaning h (Read a len) f c d size fails.lost dark
       (left_more (pages_of c.journal) (chip_of meaning d) (λ x. x ≡ point k.committed (shown (chip_of meaning c))) (AgreesOne h h)

@@ -22,7 +22,7 @@ use Rattle.cache.specs.Caches.{chip_of, view_of, PowerCall}
 use Rattle.history.specs.Histories.{History}
 use Rattle.history.specs.Histories.Phase.{on, off}
 use Rattle.history.specs.Serving.{Plain}
-use Rattle.history.specs.Following.{Agrees, Follows_on, Follows-off}
+use Rattle.history.specs.Following.{Agrees, FollowsOn, FollowsOff}
 use Rattle.journal.proofs.Leaving.{Firm, left_more, left_of_holds}
 use Rattle.journal.proofs.Settledness.{settled_as}
 use Rattle.history.proofs.Agreeing.{agrees_below}
@@ -80,10 +80,10 @@ module _ {C : Type 0} (meaning : C → Pages) (c d : Cache C) (size : d.journal.
   small = few_pages c.journal.geometry
 
   woken_on : (g : History) → d.off ≡ None → Woken D (chip_of meaning c) (chip_of meaning d) d.journal d.space → Agrees g (view_of meaning d).table (shown (chip_of meaning d))
-      → Follows_on meaning g d
+      → FollowsOn meaning g d
   woken_on g power w a = follows_on meaning g c d size power (view_of meaning d).table w.holding a a
 
-  dark_off : (h h' : History) (f : Fault) → d.off ≡ Some f → Lost f (chip_of meaning d) → Left D (chip_of meaning d) (AgreesOne h h') → Follows-off meaning h h' d
+  dark_off : (h h' : History) (f : Fault) → d.off ≡ Some f → Lost f (chip_of meaning d) → Left D (chip_of meaning d) (AgreesOne h h') → FollowsOff meaning h h' d
   dark_off h h' f power lost left = record {
     fault = f;
     power = power;
@@ -92,7 +92,7 @@ module _ {C : Type 0} (meaning : C → Pages) (c d : Cache C) (size : d.journal.
   }
 
   -- from on: a cut may come at any time, and leaves the committed table
-  module _ (h : History) (k : Follows_on meaning h c) where
+  module _ (h : History) (k : FollowsOn meaning h c) where
     firm : Firm D (chip_of meaning c) k.committed (shown (chip_of meaning c))
     firm i l e = settled_as (chip_of meaning c) (data_page_at i) (shown (chip_of meaning c) (data_page_at i)) (k.holding.keeps.ready.firm i l e) refl
 
@@ -111,7 +111,7 @@ module _ {C : Type 0} (meaning : C → Pages) (c d : Cache C) (size : d.journal.
     on_waked (Data page) r = elim r [ ]
     on_waked (Marks page len) r = elim r [ ]
 
-  module _ (h h' : History) (k : Follows-off meaning h h' c) where
+  module _ (h h' : History) (k : FollowsOff meaning h h' c) where
     pub off_waked : (x : Answer) → Plain (λ r. PowerCall meaning c r d) x → Next meaning (off h h') PowerOn x d
     off_waked Done (power, w) = go (woken_agrees D small (chip_of meaning c) (chip_of meaning d) d.journal d.space h h' k.left w)
       where

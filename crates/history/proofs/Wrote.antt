@@ -31,7 +31,7 @@ use Rattle.history.specs.Histories.{History, with_slot, step, Says, Phase, Moves
 use Rattle.history.specs.Histories.Slot.{cached}
 use Rattle.history.specs.Histories.Phase.{on, off}
 use Rattle.history.specs.Serving.{Plain, Serves}
-use Rattle.history.specs.Following.{Agrees, Follows_on, Follows-off, Follows}
+use Rattle.history.specs.Following.{Agrees, FollowsOn, FollowsOff, Follows}
 use Rattle.history.proofs.Agreeing.{slot_for, agrees_pages, agrees_dropped_new, agrees_entered, placed_away}
 use Rattle.journal.proofs.Leaving.{left_more}
 use Rattle.history.proofs.Phasing.{moves_served, moves_refused, moves_dark, stays_dark, lost_number, lost_off, same_size, follows_again}
@@ -55,7 +55,7 @@ AgreesEither h h' x = Agrees h x.table x.pages ⊎ Agrees h' x.table x.pages
 -- What a write leaves, for a history that both tables agree with.
 
 module _ (D blocks : ℕ) (dirty : Bool) (a : ℕ) (bytes : List ℕ) (m : Pages) (v : Noted) (sp : Space) (h : History) (t : Table) (holding : Holding D m v sp t)
-    (in_memory : Agrees h v.table (shown m)) (on-chip : Agrees h t (shown m)) where
+    (in_memory : Agrees h v.table (shown m)) (on_chip : Agrees h t (shown m)) where
   abbrev w : World
   w = world m v sp
 
@@ -105,16 +105,16 @@ module _ (D blocks : ℕ) (dirty : Bool) (a : ℕ) (bytes : List ℕ) (m : Pages
       uncommitted t' need (inl e) = subst (λ x. Agrees after x end.pages) (sym (e ∙ ap (λ x. x.noted.table) is)) end_agrees
       uncommitted t' need (inr (unheld, inl (same, e))) =
           subst (λ x. Agrees after x end.pages) (sym e)
-          (without_agrees need t (subst (λ x. Agrees h t x.pages) (sym same) on-chip) (ap (λ x. held x a) (sym e) ∙ unheld) (old_unmarked same))
+          (without_agrees need t (subst (λ x. Agrees h t x.pages) (sym same) on_chip) (ap (λ x. held x a) (sym e) ∙ unheld) (old_unmarked same))
       uncommitted t' need (inr (unheld, inr e)) =
           subst (λ x. Agrees after x end.pages) (sym e) (without_agrees need u.noted.table sits.agrees (ap (λ x. held x a) (sym e) ∙ unheld) unmarked)
 
       pub chip_agrees : (t' : Table) → Holding D m' v' sp' t' → WriteCommits a w u v'.table t t' → Agrees after t' (shown m')
-      chip_agrees t' after-holding commits =
+      chip_agrees t' after_holding commits =
           ⊎_elim
           (λ must.
           let staged : length v'.staged ≡ 0 = ap (λ x. length x.noted.staged) is ∙ written_staged D dirty a bytes i u must in
-          subst (λ x. Agrees after x (shown m')) (sym (nothing_staged t' v'.staged v'.table staged after-holding.keeps.ready.makes)) memory_agrees)
+          subst (λ x. Agrees after x (shown m')) (sym (nothing_staged t' v'.staged v'.table staged after_holding.keeps.ready.makes)) memory_agrees)
           (λ need. subst (λ x. Agrees after t' x.pages) (sym is) (uncommitted t' need commits))
           (cases_Bool (must_commit dirty a u))
 
@@ -124,13 +124,13 @@ module _ (D blocks : ℕ) (dirty : Bool) (a : ℕ) (bytes : List ℕ) (m : Pages
   as_before x y e agrees = inl (subst (λ z. Agrees h z.table z.pages) (sym e) agrees)
 
   room_point : (x : Point) → RoomPoints D blocks t w x → AgreesEither h after x
-  room_point x (none, (b, victim, inl e)) = as_before x t e on-chip
+  room_point x (none, (b, victim, inl e)) = as_before x t e on_chip
   room_point x (none, (b, victim, inr (inl e))) = as_before x v.table e in_memory
   room_point x (none, (b, victim, inr (inr e))) =
       as_before x (spared v.table b) e (sits_spared D h v.table (shown m) start b (eqb-true (dirty_in v.table b) 0 victim.fit)).agrees
 
   pub write_point : (x : Point) → WritePoints D blocks dirty a bytes w t x → AgreesEither h after x
-  write_point x (inl e) = as_before x t e on-chip
+  write_point x (inl e) = as_before x t e on_chip
   write_point x (inr (inl e)) = as_before x v.table e in_memory
   write_point x (inr (inr (inl room))) = room_point x room
   write_point x (inr (inr (inr (u, i, room, first, e)))) = inr (subst (λ z. Agrees after z.table z.pages) (sym e) (entered_agrees u i room first))
@@ -169,12 +169,12 @@ module _ {C : Type 0} (meaning : C → Pages) (dirty : Bool) (a : ℕ) (bytes : 
   abbrev before : World
   before = world (chip_of meaning c) (view_of meaning c) c.space
 
-  module _ (h : History) (f : Follows_on meaning h c) where
+  module _ (h : History) (f : FollowsOn meaning h c) where
     abbrev next : History
     next = with_slot h a (slot_for dirty bytes)
 
     served_follows : d.off ≡ None → Writes D blocks dirty a bytes (chip_of meaning c) (view_of meaning c) c.space (Ok tt) (chip_of meaning d) (view_of meaning d) d.space
-        → Follows_on meaning next d
+        → FollowsOn meaning next d
     served_follows power (u, i, room, first, (long, is, held), settled) =
         let m = chip_of meaning c in
         let v = view_of meaning c in
@@ -192,7 +192,7 @@ module _ {C : Type 0} (meaning : C → Pages) (dirty : Bool) (a : ℕ) (bytes : 
     -- power failed: whichever way the cut went
     failed_follows : (g : Fault) → d.off ≡ off_by g → Fails (chip_of meaning c) g (chip_of meaning d)
         → ((t : Table) → Holding D (chip_of meaning c) (view_of meaning c) c.space t → Left D (chip_of meaning d) (WritePoints D blocks dirty a bytes before t))
-        → Follows-off meaning h next d
+        → FollowsOff meaning h next d
     failed_follows g power fails left = record {
       fault = g;
       power = power ∙ lost_off g (chip_of meaning d) fails.lost;
@@ -207,20 +207,20 @@ module _ {C : Type 0} (meaning : C → Pages) (dirty : Bool) (a : ℕ) (bytes : 
     abbrev Moved : Phase → Answer → Type 0
     Moved p x = (next : Phase) × Moves p call x next × Follows meaning next d
 
-    refused : (h : History) (g : Fault) (n : ℕ) → refusal_number g.refusal ≡ n → eqb n 1 ≡ false → eqb n 0 ≡ false → Follows_on meaning h d → Moved (on h) (Refused g)
+    refused : (h : History) (g : Fault) (n : ℕ) → refusal_number g.refusal ≡ n → eqb n 1 ≡ false → eqb n 0 ≡ false → FollowsOn meaning h d → Moved (on h) (Refused g)
     refused h g n e bright not f = (on h, moves_refused h call (Refused g) (ap (λ k. eqb k 1) e ∙ bright) (ap (λ k. eqb k 0) e ∙ not) (says h (Refused g)), f)
 
     wrote : (p : Phase) (x : Answer) → Follows meaning p c → Plain (λ r. WriteCall meaning dirty a bytes c r d) x → Moved p x
     wrote (on h) Done f (none, power, works) =
-        (on (step h call), moves_served h call Done refl (says h Done), subst (λ k. Follows_on meaning k d) (sym (stepped h)) (served_follows h f power works))
+        (on (step h call), moves_served h call Done refl (says h Done), subst (λ k. FollowsOn meaning k d) (sym (stepped h)) (served_follows h f power works))
     wrote (on h) (Refused g) f (inl (refusal, same)) =
-        refused h g 2 (refused_number c.off a (length bytes) g f.power refusal) refl refl (subst (Follows_on meaning h) (sym same) f)
+        refused h g 2 (refused_number c.off a (length bytes) g f.power refusal) refl refl (subst (FollowsOn meaning h) (sym same) f)
     wrote (on h) (Refused g) f (inr (none, power, inl (full, no_room, chip, view, space))) =
         refused h g 9 (ap (λ k. refusal_number k.refusal) full) refl refl (follows_again meaning c d size h (power ∙ ap off_by full) chip view space f)
     wrote (on h) (Refused g) f (inr (none, power, inr (fails, left))) = (
       off h (step h call),
       moves_dark h call (Refused g) (lost_number g (chip_of meaning d) fails.lost),
-      subst (λ k. Follows-off meaning h k d) (sym (stepped h)) (failed_follows h f g power fails left),
+      subst (λ k. FollowsOff meaning h k d) (sym (stepped h)) (failed_follows h f g power fails left),
     )
     wrote (on h) (Data page) f k = absurd k
     wrote (on h) (Marks page len) f k = absurd k
@@ -228,7 +228,7 @@ module _ {C : Type 0} (meaning : C → Pages) (dirty : Bool) (a : ℕ) (bytes : 
     wrote (off h h') (Refused g) f (inl (refusal, same)) = (
       off h h',
       stays_dark h h' call (Refused g) (ap (λ k. refusal_number k.refusal) (same_fault c.off a (length bytes) f.fault g f.power refusal) ∙ f.number),
-      subst (Follows-off meaning h h') (sym same) f,
+      subst (FollowsOff meaning h h') (sym same) f,
     )
     wrote (off h h') (Refused g) f (inr (none, power, works)) = absurd (never_none c.off a (length bytes) f.fault f.power none)
     wrote (off h h') (Data page) f k = absurd k

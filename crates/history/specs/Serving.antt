@@ -16,10 +16,10 @@ use Rattle.history.specs.Histories.{Fits}
 
 -- a call that answers nothing but that it is done
 abbrev pub Plain : (Result (Unit {0}) Fault → Type 0) → Answer → Type 0
-Plain Result-is Done = Result-is (Ok tt)
-Plain Result-is (Refused f) = Result-is (Err f)
-Plain Result-is (Data page) = ⊥
-Plain Result-is (Marks page len) = ⊥
+Plain ResultIs Done = ResultIs (Ok tt)
+Plain ResultIs (Refused f) = ResultIs (Err f)
+Plain ResultIs (Data page) = ⊥
+Plain ResultIs (Marks page len) = ⊥
 
 module _ {C : Type 0} (meaning : C → Pages) where
   -- a read into a buffer of this length

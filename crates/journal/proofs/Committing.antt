@@ -164,9 +164,9 @@ pub log_call : (D : ℕ) (m m₁ : Pages) (area : Area) (next p : ℕ) (note : N
 log_call D m m₁ area next p note bytes staged count r a b c call =
     let e : count - 0 ≡ count = omega arith in
     let note_is : note ≡ log_note (take count staged) = b ∙ ap (λ k. log_note (take k staged)) e in
-    let bytes-are : bytes ≡ log_data (take count staged) = c ∙ ap (λ k. log_data (take k staged)) e in
+    let bytes_are : bytes ≡ log_data (take count staged) = c ∙ ap (λ k. log_data (take k staged)) e in
     subst (λ q. Programs m q (log_note (take count staged)) (log_data (take count staged)) r m₁) a
-    (subst (λ x. Programs m p x (log_data (take count staged)) r m₁) note_is (subst (λ x. Programs m p note x r m₁) bytes-are call))
+    (subst (λ x. Programs m p x (log_data (take count staged)) r m₁) note_is (subst (λ x. Programs m p note x r m₁) bytes_are call))
 
 pub log_whole : (bytes : List ℕ) (staged : List Record) (count : ℕ) → bytes ≡ log_data (take (count - 0) staged) → length bytes ≡ 512 → length (log_data (take count staged)) ≡ 512
 log_whole bytes staged count c whole = let e : count - 0 ≡ count = omega arith in ap (λ k. length (log_data (take k staged))) (sym e) ∙ ap length (sym c) ∙ whole

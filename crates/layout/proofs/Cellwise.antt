@@ -74,14 +74,14 @@ module _ {X : Type 0} (bytes : X → List ℕ) (eight : (x : X) → length (byte
   pub get_all : (page : List ℕ) (xs : List X) → length page ≡ 512 → length xs ≤ 64 → take (8 * length xs) page ≡ flat_map bytes xs
       → ((k : ℕ) → 8 * length xs ≤ k → k < length page → get_or page k 0 ≡ 0) → page ≡ cells_page bytes xs
   unfolding cells_page
-  get_all page xs whole few front rest-is =
+  get_all page xs whole few front rest_is =
       let n : ℕ = 8 * length xs in
       let len : length (drop n page) ≡ length (zeros (512 - n)) = length-drop {A = ℕ} n page ∙ ap (λ m. m - n) whole ∙ sym (length-replicate {A = ℕ} (512 - n) 0) in
       let rest : drop n page ≡ zeros (512 - n) =
       ext_get_or 0 (drop n page) (zeros (512 - n)) len
       (λ i h.
       let h' : i < 512 - n = omega (arith, length-drop n page) in
-      get_or-drop n page i 0 ∙ rest-is (n + i) (omega arith) (omega arith) ∙ sym (get_or-replicate (512 - n) i 0 0 h')) in
+      get_or-drop n page i 0 ∙ rest_is (n + i) (omega arith) (omega arith) ∙ sym (get_or-replicate (512 - n) i 0 0 h')) in
       sym (take-append-drop n page) ∙ ap (λ z. z ++ drop n page) front ∙ ap (λ z. flat_map bytes xs ++ z) rest
 
   -- what stands behind the values is zero
@@ -136,18 +136,18 @@ module _ {X : Type 0} (bytes : X → List ℕ) (eight : (x : X) → length (byte
     pub get_done : (page : List ℕ) (xs : List X) (k m : ℕ) → k ≡ length xs → m ≡ 8 * length xs → length page ≡ 512 → length xs ≤ 64
         → AllByRecursion Proper (take k xs) × (take (8 * k) page ≡ flat_map bytes (take k xs))
         → ((i : ℕ) → m ≤ i → i < length page → get_or page i 0 ≡ 0) → AllByRecursion Proper xs × (page ≡ cells_page bytes xs)
-    get_done page xs k m n e whole few (ps, front) rest-is =
+    get_done page xs k m n e whole few (ps, front) rest_is =
         let all : take k xs ≡ xs = take_all k xs (omega arith) in (
           subst (AllByRecursion Proper) all ps,
-          get_all page xs whole few (ap (λ j. take (8 * j) page) (sym n) ∙ front ∙ ap (flat_map bytes) all) (λ i h j. rest-is i (omega arith) j),
+          get_all page xs whole few (ap (λ j. take (8 * j) page) (sym n) ∙ front ∙ ap (flat_map bytes) all) (λ i h j. rest_is i (omega arith) j),
         )
 
     -- a page of one value
     pub one_decodes : (page : List ℕ) → length page ≡ 512 → ((i : ℕ) → 8 ≤ i → i < length page → get_or page i 0 ≡ 0) → (r : Option X)
         → Decodes Proper bytes (take 8 page) r → Decodes Proper (λ x. cells_page bytes (x ∷ [])) page r
-    one_decodes page whole rest-is (Some x) (p, e, only) =
-        (p, get_all page (x ∷ []) whole (lit≤ tt) (e ∙ sym (append-nil (bytes x))) rest-is, λ y q f. only y q (one_front page y f))
-    one_decodes page whole rest-is None none = λ y q f. none y q (one_front page y f)
+    one_decodes page whole rest_is (Some x) (p, e, only) =
+        (p, get_all page (x ∷ []) whole (lit≤ tt) (e ∙ sym (append-nil (bytes x))) rest_is, λ y q f. only y q (one_front page y f))
+    one_decodes page whole rest_is None none = λ y q f. none y q (one_front page y f)
 
     module _ (apart : (x y : X) → Proper x → Proper y → bytes x ≡ bytes y → x ≡ y) where
       same_joined : (xs ys : List X) (r s : List ℕ) → length xs ≡ length ys → AllByRecursion Proper xs → AllByRecursion Proper ys

@@ -41,7 +41,7 @@ abbrev pub log_page_at : ℕ → Area → ℕ → ℕ
 log_page_at pages area j = first_page area + entry_pages pages + 1 + j
 
 -- the data pages, entry pages and log pages of a chip with so many erase blocks
-pub record Sizes (blocks for-data for-entries for-log : ℕ) : Type 0 where
-  pub data_are : data_pages blocks ≡ for-data
-  pub entries_are : entry_pages (data_pages blocks) ≡ for-entries
-  pub log_are : log_pages (data_pages blocks) ≡ for-log
+pub record Sizes (blocks for_data for_entries for_log : ℕ) : Type 0 where
+  pub data_are : data_pages blocks ≡ for_data
+  pub entries_are : entry_pages (data_pages blocks) ≡ for_entries
+  pub log_are : log_pages (data_pages blocks) ≡ for_log

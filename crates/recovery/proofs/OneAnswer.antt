@@ -8,7 +8,7 @@ use Rattle.recovery.specs.Recovering.{Found, Recovered, Recovers}
 use Rattle.recovery.specs.Recovering.Failed.{no_trailer, first_trailer, second_trailer, same_number, entry_page, log_page, data_page}
 use Rattle.recovery.specs.Answer.{OneAnswer, ZeroFollowsTwo, SameNumberRefused}
 use Rattle.recovery.proofs.Stages.{OneResult, Then, then_one, AreaStage, EntryStage, LogStage, DataStage, area_one, entry_one, log_one, data_one}
-use Rattle.recovery.proofs.Stages.Bad-trailers.{none, first, second, same}
+use Rattle.recovery.proofs.Stages.BadTrailers.{none, first, second, same}
 
 module _ (D : ℕ) (s : ℕ → State) where
   abbrev found : Area → ℕ → Table → ℕ → Found

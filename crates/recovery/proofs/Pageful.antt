@@ -83,13 +83,13 @@ module _ (u : Table) (n end : ℕ) (is : end ≡ min n (length u)) where
 -- a page that was read, by whether it brought an address a second time
 pub taken_read : (page : State) (note : Note) (bytes : List ℕ) (j : ℕ) (t u : Table) (end : ℕ) (r : Bool) → page ≡ held note bytes → length u ≡ length t
     → end ≡ min (64 * j + 64) (length u) → EntriesRead note bytes j t true u → Decides r (DistinctBelow (take end u) (length (take end u))) → Taken page j t r u
-taken_read page note bytes j t u end true e len is (a, b, c, d, _) (yes-is, no-is) =
-    (e ∙ ap₂ held a b, c, d, len, distinct_cut u (64 * j + 64) end is (yes-is refl))
-taken_read page note bytes j t u end false e len is (a, b, c, d, _) (yes-is, no-is) = λ v lv front pv cv dv.
-    let same-page : entry_data v j ≡ entry_data u j = sym (held_bytes note (entry_note j) bytes (entry_data v j) (sym e ∙ pv)) ∙ b in
-    let part : entry_part v j ≡ entry_part u j = same_part v u j (lv ∙ sym len) cv c same-page in
+taken_read page note bytes j t u end true e len is (a, b, c, d, _) (yes_is, no_is) =
+    (e ∙ ap₂ held a b, c, d, len, distinct_cut u (64 * j + 64) end is (yes_is refl))
+taken_read page note bytes j t u end false e len is (a, b, c, d, _) (yes_is, no_is) = λ v lv front pv cv dv.
+    let same_page : entry_data v j ≡ entry_data u j = sym (held_bytes note (entry_note j) bytes (entry_data v j) (sym e ∙ pv)) ∙ b in
+    let part : entry_part v j ≡ entry_part u j = same_part v u j (lv ∙ sym len) cv c same_page in
     let whole : take (64 * j + 64) v ≡ take (64 * j + 64) u = front_more v u j (front ∙ sym d) part in
-    false≢true (no-is (distinct_uncut u (64 * j + 64) end is (distinct_front v u (64 * j + 64) whole dv)))
+    false≢true (no_is (distinct_uncut u (64 * j + 64) end is (distinct_front v u (64 * j + 64) whole dv)))
 
 -- a page that is no entry page
 pub not_read : (page : State) (note : Note) (bytes : List ℕ) (j : ℕ) (t u : Table) → page ≡ held note bytes → EntriesRead note bytes j t false u → Taken page j t false u

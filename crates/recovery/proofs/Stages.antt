@@ -52,15 +52,15 @@ first_fault place j k f g e d a b = let same : j ≡ k = omega arith in e ∙ ap
 module _ (D : ℕ) (s : ℕ → State) where
   -- Trailers
 
-  pub data Bad-trailers (f : Fault) : Type 0 where
-    none : f ≡ cache_fault 0 NoCheckpoint → (Counts (s (trailer_at D One)) → ⊥) → (Counts (s (trailer_at D Two)) → ⊥) → Bad-trailers f
-    first : f ≡ cache_fault (trailer_at D One) Breach → Malformed D s One → Bad-trailers f
-    second : f ≡ cache_fault (trailer_at D Two) Breach → (Malformed D s One → ⊥) → Malformed D s Two → Bad-trailers f
-    same : f ≡ cache_fault (trailer_at D Two) Breach → (n : ℕ) → Numbered D One (s (trailer_at D One)) n → Numbered D Two (s (trailer_at D Two)) n → Bad-trailers f
+  pub data BadTrailers (f : Fault) : Type 0 where
+    none : f ≡ cache_fault 0 NoCheckpoint → (Counts (s (trailer_at D One)) → ⊥) → (Counts (s (trailer_at D Two)) → ⊥) → BadTrailers f
+    first : f ≡ cache_fault (trailer_at D One) Breach → Malformed D s One → BadTrailers f
+    second : f ≡ cache_fault (trailer_at D Two) Breach → (Malformed D s One → ⊥) → Malformed D s Two → BadTrailers f
+    same : f ≡ cache_fault (trailer_at D Two) Breach → (n : ℕ) → Numbered D One (s (trailer_at D One)) n → Numbered D Two (s (trailer_at D Two)) n → BadTrailers f
 
   abbrev pub AreaStage : Result (Area × ℕ) Fault → Type 0
   AreaStage (Ok x) = Active D s x.0 x.1
-  AreaStage (Err f) = Bad-trailers f
+  AreaStage (Err f) = BadTrailers f
 
   numbered_counts : (area : Area) (n : ℕ) → Numbered D area (s (trailer_at D area)) n → Counts (s (trailer_at D area))
   numbered_counts area n h = subst Counts (sym h.is) refl
@@ -116,7 +116,7 @@ module _ (D : ℕ) (s : ℕ → State) where
       let q : b ≡ k = numbered_same One b k z x in
       omega (arith, x.small)
 
-  active_bad : (a : Area) (n : ℕ) (f : Fault) → Active D s a n → Bad-trailers f → ⊥
+  active_bad : (a : Area) (n : ℕ) (f : Fault) → Active D s a n → BadTrailers f → ⊥
   active_bad One n f h (none e x y) = x (numbered_counts One n h.own)
   active_bad One n f h (first e x) = active_formed One One n h x
   active_bad One n f h (second e x y) = active_formed One Two n h y
@@ -126,7 +126,7 @@ module _ (D : ℕ) (s : ℕ → State) where
   active_bad Two n f h (second e x y) = active_formed Two Two n h y
   active_bad Two n f h (same e k x y) = active_apart Two n k h x y
 
-  bad_one : (f g : Fault) → Bad-trailers f → Bad-trailers g → f ≡ g
+  bad_one : (f g : Fault) → BadTrailers f → BadTrailers g → f ≡ g
   bad_one f g (none e x y) (none d z w) = e ∙ sym d
   bad_one f g (none e x y) (first d z) = absurd (x z.0)
   bad_one f g (none e x y) (second d z w) = absurd (y w.0)

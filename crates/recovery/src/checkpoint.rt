@@ -1,6 +1,6 @@
 // The entries of a checkpoint: read page by page, with no address twice.
 ghost use Rattle.std.specs.Prelude.{◌≡◌, ℕ, suc, ◌+◌, ◌*◌, ◌<◌, ◌≤◌, min, Bool, true, false, List, length, Decides};
-ghost use Rattle.table.specs.Tables.{has_mark, holds, held as is_held_lem};
+ghost use Rattle.table.specs.Tables.{has_mark, holds, held as is_held};
 ghost use Rattle.device.specs.declared.faults.Refusal.TheVariants.{Breach};
 ghost use Rattle.device.specs.Chips.{State};
 ghost use Rattle.layout.specs.Geometry.{data_pages, entry_pages, entry_page_at};
@@ -24,7 +24,7 @@ fn is_marked(mark: Mark) -> bool
 
 // Whether one of the entries holds the address.
 fn held_in(entries: &[Entry], address: DiskAddress) -> bool
-    ensures { result ≡ is_held_lem entries.now address.0 }
+    ensures { result ≡ is_held entries.now address.0 }
 {
     for e in entries {
         if is_marked(e.mark) & (e.address.0 == address.0) {

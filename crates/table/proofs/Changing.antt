@@ -165,10 +165,10 @@ remarked_entry_proper m a e p =
 module _ (t : Table) (proper : ProperTable t) where
   pub remarked_proper : (m : Mark) (a : ℕ) → ProperTable (remarked t m a)
   remarked_proper m a =
-      let held-before : (i b : ℕ) → holds b (entry_at (remarked t m a) i) ≡ true → holds b (entry_at t i) ≡ true = λ i b h. remarked_holds m a b (entry_at t i) (ap (holds b) (sym (remarked_at t m a i)) ∙ h) in
+      let held_before : (i b : ℕ) → holds b (entry_at (remarked t m a) i) ≡ true → holds b (entry_at t i) ≡ true = λ i b h. remarked_holds m a b (entry_at t i) (ap (holds b) (sym (remarked_at t m a i)) ∙ h) in
       record {
         entries = All-from_get_or ProperEntry (remarked t m a) empty (λ i l. subst ProperEntry (sym (remarked_at t m a i)) (remarked_entry_proper m a (entry_at t i) (entry_proper t i proper)));
-        distinct = λ i j b h k. proper.distinct i j b (held-before i b h) (held-before j b k);
+        distinct = λ i j b h k. proper.distinct i j b (held_before i b h) (held_before j b k);
       }
 
   pub without_proper : (a : ℕ) → ProperTable (without t a)
