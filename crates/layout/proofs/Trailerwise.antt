@@ -5,7 +5,8 @@ use Rattle.layout.specs.declared.areas.Area.TheVariants.{One, Two}
 use Rattle.layout.specs.declared.trailers.Trailer.{Trailer}
 use Rattle.layout.specs.Geometry.{first_page}
 use Rattle.layout.specs.Pages.{trailer_bytes, ProperTrailer}
-use Rattle.layout.specs.Numbers.{two_number, two_in, two_same, eight_listed}
+use Rattle.layout.specs.Apart.{two_same}
+use Rattle.layout.proofs.Numbers.{two_number, two_in, eight_listed}
 
 abbrev trailer_of : Area → ℕ → Trailer
 trailer_of a n = record { area = a; pages = n }

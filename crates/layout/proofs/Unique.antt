@@ -16,8 +16,7 @@ use Rattle.layout.specs.Entries.{entry_bytes, ProperEntry}
 use Rattle.layout.specs.Records.{record_bytes, ProperRecord}
 use Rattle.layout.specs.Pages.{entry_part, entry_data, entry_note, trailer_bytes, ProperTrailer, trailer_data, trailer_note, log_data, log_note}
 use Rattle.layout.specs.Laws.{ProperTable, Checkpoint, entry_page, trailer_page, OneCheckpoint, OneLog}
-use Rattle.layout.specs.Recordwise.{same_record}
-use Rattle.layout.specs.Entrywise.{same_entry}
+use Rattle.layout.specs.Apart.{same_record, same_entry}
 use Rattle.layout.proofs.Trailerwise.{same_trailer}
 use Rattle.layout.proofs.Cellwise.{same_cells}
 use Rattle.layout.proofs.Partwise.{same_parts}

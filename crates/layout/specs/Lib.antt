@@ -4,6 +4,4 @@ pub mod Records
 pub mod Entries
 pub mod Pages
 pub mod Laws
-pub mod Entrywise
-pub mod Numbers
-pub mod Recordwise
+pub mod Apart

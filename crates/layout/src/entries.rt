@@ -1,7 +1,7 @@
 // The entries of the mapping table: for each data page, whether it holds a disk address, and which.
 ghost use Rattle.std.specs.Prelude.{◌≡◌};
 ghost use Rattle.layout.specs.Entries.{mark_number, entry_bytes, empty_entry, ProperEntry, EntryOf};
-ghost use Rattle.layout.specs.Entrywise.{same_entry};
+ghost use Rattle.layout.specs.Apart.{same_entry};
 ghost use Rattle.std.proofs.Common.{rules};
 
 use crate::cells::Cell;

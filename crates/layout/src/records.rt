@@ -4,7 +4,7 @@ ghost use Rattle.device.specs.declared.places.DataPage.{DataPage};
 ghost use Rattle.device.specs.declared.places.DiskAddress.{DiskAddress};
 ghost use Rattle.layout.specs.declared.records.Record.TheVariants.{PutDirty};
 ghost use Rattle.layout.specs.Records.{record_cell, record_bytes, ProperRecord};
-ghost use Rattle.layout.specs.Recordwise.{same_record};
+ghost use Rattle.layout.specs.Apart.{same_record};
 ghost use Rattle.std.proofs.Common.{rules};
 
 use crate::cells::Cell;

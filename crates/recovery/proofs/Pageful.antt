@@ -14,7 +14,7 @@ use Rattle.layout.specs.Entries.{entry_bytes, ProperEntry}
 use Rattle.layout.specs.Geometry.{entry_pages, entry_page_at}
 use Rattle.layout.specs.Pages.{entry_part, entry_note, entry_data, EntriesRead}
 use Rattle.layout.proofs.Cellwise.{same_cells}
-use Rattle.layout.specs.Entrywise.{same_entry}
+use Rattle.layout.specs.Apart.{same_entry}
 use Rattle.layout.proofs.Partwise.{same_front}
 use Rattle.table.specs.Tables.{Table, empty, entry_at, holds}
 use Rattle.recovery.specs.Recovering.{cache_fault, DistinctBelow, Entered}

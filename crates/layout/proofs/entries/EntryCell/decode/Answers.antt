@@ -1,5 +1,5 @@
 use Rattle.std.proofs.Common.{◌≡◌, length, get_or, rules}
-use Rattle.layout.specs.Entrywise.{entry_decodes}
+use Rattle.layout.proofs.Entrywise.{entry_decodes}
 use Rattle.layout.proofs.entries.EntryCell.decode.Goals as goal
 
 pub returns-in-0 : goal.returns-in-0

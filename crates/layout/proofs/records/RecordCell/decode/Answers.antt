@@ -1,7 +1,8 @@
 use Rattle.std.proofs.Common.{◌≡◌, length, get_or, rules}
 use Rattle.layout.specs.Records.{record_bytes, ProperRecord}
-use Rattle.layout.specs.Numbers.{decodes_some}
-use Rattle.layout.specs.Recordwise.{same_record, put_read, drop_read}
+use Rattle.layout.specs.Apart.{same_record}
+use Rattle.layout.proofs.Numbers.{decodes_some}
+use Rattle.layout.proofs.Recordwise.{put_read, drop_read}
 use Rattle.layout.proofs.records.RecordCell.decode.Goals as goal
 
 pub returns-then-kind-eq1-2 : goal.returns-then-kind-eq1-2

@@ -1,7 +1,7 @@
 use Rattle.std.proofs.Common.{◌≡◌, length, get_or, rules}
 use Rattle.layout.specs.declared.areas.Area.TheVariants.{One, Two}
 use Rattle.layout.specs.Pages.{trailer_bytes, ProperTrailer}
-use Rattle.layout.specs.Numbers.{decodes_some}
+use Rattle.layout.proofs.Numbers.{decodes_some}
 use Rattle.layout.proofs.Trailerwise.{same_trailer, trailer_read}
 use Rattle.layout.proofs.trailers.TrailerCell.decode.Goals as goal
 

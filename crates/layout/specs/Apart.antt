@@ -1,13 +1,58 @@
--- Records and their bytes: no two records have the same, and what is read is what was written.
-use Rattle.std.specs.Prelude.{◌≡◌, ℕ, ◌<◌, List, length, slice_index, slice_index_or}
+-- Entries and records with the same bytes are the same: what the law `apart` of a `Cell` asks of them.
+use Rattle.std.specs.Prelude.{◌≡◌, ℕ, ◌/◌, ◌%◌, ◌<◌, slice_index, refl}
 use Rattle.std.proofs.Common.{ap, ap₂, arith}
+use Rattle.std.proofs.Math.Nat.{div-div-eq-div-mul}
 use Rattle.device.specs.declared.places.DataPage.{DataPage}
 use Rattle.device.specs.declared.places.DiskAddress.{DiskAddress}
+use Rattle.layout.specs.declared.entries.Entry.{Entry}
+use Rattle.layout.specs.declared.entries.Mark.{Mark}
+use Rattle.layout.specs.declared.entries.Mark.TheVariants.{Empty, Clean, Dirty}
 use Rattle.layout.specs.declared.records.Record.{Record}
 use Rattle.layout.specs.declared.records.Record.TheVariants.{PutClean, PutDirty, Drop, MarkClean}
 use Rattle.layout.specs.Bytes.{four_bytes}
+use Rattle.layout.specs.Entries.{mark_number, entry_bytes, AddressFits, ProperEntry}
 use Rattle.layout.specs.Records.{record_cell, record_bytes, ProperRecord}
-use Rattle.layout.specs.Numbers.{two_number, four_number, two_in, two_same, four_same, tail_read}
+
+-- numbers with the same bytes are the same
+pub two_same : (x y : ℕ) → x < 65536 → y < 65536 → x / 256 % 256 ≡ y / 256 % 256 → x % 256 ≡ y % 256 → x ≡ y
+two_same x y hx hy e f = omega arith
+
+pub four_same : (x y : ℕ) → x < 4294967296 → y < 4294967296 → four_bytes x ≡ four_bytes y → x ≡ y
+four_same x y hx hy e =
+    let ea : x / 16777216 % 256 ≡ y / 16777216 % 256 = cc in
+    let eb : x / 65536 % 256 ≡ y / 65536 % 256 = cc in
+    let ec : x / 256 % 256 ≡ y / 256 % 256 = cc in
+    let ed : x % 256 ≡ y % 256 = cc in
+    omega (arith, div-div-eq-div-mul x 256 256, div-div-eq-div-mul x 65536 256, div-div-eq-div-mul y 256 256, div-div-eq-div-mul y 65536 256)
+
+-- Entries
+
+abbrev entry_of : Mark → ℕ → Entry
+entry_of m a = record { mark = m; address = record { 0 = a } }
+
+mark_same : (m n : Mark) → mark_number m ≡ mark_number n → m ≡ n
+mark_same Empty Empty e = refl
+mark_same Empty Clean e = absurd (omega arith)
+mark_same Empty Dirty e = absurd (omega arith)
+mark_same Clean Empty e = absurd (omega arith)
+mark_same Clean Clean e = refl
+mark_same Clean Dirty e = absurd (omega arith)
+mark_same Dirty Empty e = absurd (omega arith)
+mark_same Dirty Clean e = absurd (omega arith)
+mark_same Dirty Dirty e = refl
+
+pub address_small : (m : Mark) (a : ℕ) → AddressFits m a → a < 4294967296
+address_small Empty a h = omega arith
+address_small Clean a h = h
+address_small Dirty a h = h
+
+pub same_entry : (x y : Entry) → ProperEntry x → ProperEntry y → entry_bytes x ≡ entry_bytes y → x ≡ y
+same_entry x y hx hy e =
+    let t : four_bytes x.address.0 ≡ four_bytes y.address.0 = cc in
+    ap₂ entry_of (mark_same x.mark y.mark (ap (λ z. slice_index z 0) e))
+    (four_same x.address.0 y.address.0 (address_small x.mark x.address.0 hx) (address_small y.mark y.address.0 hy) t)
+
+-- Records
 
 abbrev page_of : ℕ → DataPage
 page_of n = record { 0 = n }
@@ -41,14 +86,3 @@ same_record (MarkClean a) (PutClean q b) hr hs e = absurd (omega (arith, ap (λ 
 same_record (MarkClean a) (PutDirty q b) hr hs e = absurd (omega (arith, ap (λ z. slice_index z 0) e))
 same_record (MarkClean a) (Drop b) hr hs e = absurd (omega (arith, ap (λ z. slice_index z 0) e))
 same_record (MarkClean a) (MarkClean b) hr hs e = ap MarkClean (address_same 4 0 0 a.0 b.0 hr hs e)
-
--- eight bytes as a record of their kind
-module _ (xs : List ℕ) (len : length xs ≡ 8) (small : (i : ℕ) → slice_index xs i < 256) (k : ℕ) (hk : slice_index_or xs 0 0 ≡ k) (hz : slice_index_or xs 1 0 ≡ 0) (a : ℕ) (ha : a ≡ four_number (slice_index xs 4) (slice_index xs 5) (slice_index xs 6) (slice_index xs 7)) where
-  pub put_read : (p : ℕ) → p ≡ two_number (slice_index xs 2) (slice_index xs 3) → xs ≡ record_cell k p a
-  put_read p hp =
-      let e = tail_read xs len small a ha in
-      let f = two_in (slice_index xs 2) (slice_index xs 3) (four_bytes a) (small 2) (small 3) in
-      cc
-
-  pub drop_read : slice_index_or xs 2 0 ≡ 0 → slice_index xs 3 ≡ 0 → xs ≡ record_cell k 0 a
-  drop_read h2 h3 = let e = tail_read xs len small a ha in cc

@@ -1,7 +1,6 @@
 -- Numbers in bytes and back.
 use Rattle.std.specs.Prelude.{◌≡◌, ℕ, ◌+◌, ◌*◌, ◌/◌, ◌%◌, ◌<◌, List, [], ◌∷◌, length, Some, slice_index}
 use Rattle.std.proofs.Common.{sym, ap, ◌∙◌, arith}
-use Rattle.std.proofs.Math.Nat.{div-div-eq-div-mul}
 use Rattle.std.proofs.lemmas.List.{drop_more, drop_all}
 use Rattle.layout.specs.Bytes.{two_bytes, four_bytes, Decodes}
 
@@ -28,18 +27,6 @@ four_in a b c d ha hb hc hd =
 
 pub four_small : (a b c d : ℕ) → a < 256 → b < 256 → c < 256 → d < 256 → four_number a b c d < 4294967296
 four_small a b c d ha hb hc hd = omega arith
-
--- numbers with the same bytes are the same
-pub two_same : (x y : ℕ) → x < 65536 → y < 65536 → x / 256 % 256 ≡ y / 256 % 256 → x % 256 ≡ y % 256 → x ≡ y
-two_same x y hx hy e f = omega arith
-
-pub four_same : (x y : ℕ) → x < 4294967296 → y < 4294967296 → four_bytes x ≡ four_bytes y → x ≡ y
-four_same x y hx hy e =
-    let ea : x / 16777216 % 256 ≡ y / 16777216 % 256 = cc in
-    let eb : x / 65536 % 256 ≡ y / 65536 % 256 = cc in
-    let ec : x / 256 % 256 ≡ y / 256 % 256 = cc in
-    let ed : x % 256 ≡ y % 256 = cc in
-    omega (arith, div-div-eq-div-mul x 256 256, div-div-eq-div-mul x 65536 256, div-div-eq-div-mul y 256 256, div-div-eq-div-mul y 65536 256)
 
 -- eight bytes, by their places
 pub eight_listed : (xs : List ℕ) → length xs ≡ 8
