@@ -1,7 +1,6 @@
 // Calls of a chip with the answers that they are to have, and how to try them.
 use crate::bytes::{UNTOUCHED, fill, has_tag, is_untouched, note_of};
 use device::{Chip, ChipPage, EraseBlock, Fault};
-use std::process::Abort;
 
 // A call. A read has its page and the length of its buffer, a program its page, the number of its bytes and their tag.
 #[derive(Clone, Copy)]
@@ -103,13 +102,29 @@ fn answer_to<C: Chip>(chip: &mut C, call: Call) -> Answer
     }
 }
 
-// Makes the calls of a row in turn and checks every answer.
-pub(super) fn check_steps<C: Chip>(rt: &impl Abort, row: usize, chip: &mut C, steps: &[Step])
+// A step that was answered otherwise than it was to be.
+#[derive(Clone, Copy, PartialEq, Debug)]
+pub(super) struct Wrong {
+    pub step: usize,
+    pub got: Answer,
+    pub wanted: Answer,
+}
+
+// Makes the calls in turn and checks every answer.
+pub(super) fn check_steps<C: Chip>(chip: &mut C, steps: &[Step]) -> Result<(), Wrong>
     requires { C.Chip.sound chip.old }
     ensures sound { C.Chip.sound chip.new }
 {
     for k in 0..steps.len() {
-        let Step(call, answer) = steps[k];
-        assert_eq!(rt; answer_to(chip, call), answer, "row {row}, step {k}");
+        let Step(call, wanted) = steps[k];
+        let got = answer_to(chip, call);
+        if got != wanted {
+            return Err(Wrong {
+                step: k,
+                got,
+                wanted,
+            });
+        }
     }
+    Ok(())
 }

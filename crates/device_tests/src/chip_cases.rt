@@ -67,7 +67,7 @@ fn take_steps<'a>(
     let Ok(mut chip) = ImageChip::new(image, fuses) else {
         panic!(rt; "row {row}, no chip was made");
     };
-    check_steps(rt, row, &mut chip, steps);
+    assert_eq!(rt; check_steps(&mut chip, steps), Ok(()), "row {row}");
 }
 
 // Tries the case of a row over an image chip.

@@ -1,8 +1,7 @@
 // Calls of a disk with the answers that they are to have, and how to try them.
 use crate::bytes::{UNTOUCHED, fill, has_tag};
-use crate::calls::{Answer, done, unread};
+use crate::calls::{Answer, Wrong, done, unread};
 use device::{Disk, DiskAddress, Fault};
-use std::process::Abort;
 
 // A call. A read has its block and the length of its buffer, a write its block, the number of its bytes and their tag.
 #[derive(Clone, Copy)]
@@ -62,18 +61,21 @@ fn answer_to<D: Disk>(disk: &mut D, call: DiskCall) -> Answer
     }
 }
 
-// Makes the calls of a row in turn and checks every answer.
-pub(super) fn check_disk_steps<D: Disk>(
-    rt: &impl Abort,
-    row: usize,
-    disk: &mut D,
-    steps: &[DiskStep],
-)
+// Makes the calls in turn and checks every answer.
+pub(super) fn check_disk_steps<D: Disk>(disk: &mut D, steps: &[DiskStep]) -> Result<(), Wrong>
     requires { D.Disk.sound disk.old }
     ensures sound { D.Disk.sound disk.new }
 {
     for k in 0..steps.len() {
-        let DiskStep(call, answer) = steps[k];
-        assert_eq!(rt; answer_to(disk, call), answer, "row {row}, step {k}");
+        let DiskStep(call, wanted) = steps[k];
+        let got = answer_to(disk, call);
+        if got != wanted {
+            return Err(Wrong {
+                step: k,
+                got,
+                wanted,
+            });
+        }
     }
+    Ok(())
 }

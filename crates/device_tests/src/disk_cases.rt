@@ -72,7 +72,7 @@ fn take_steps<'a>(
     let Ok(mut disk) = ImageDisk::new(image, fuses) else {
         panic!(rt; "row {row}, no disk was made");
     };
-    check_disk_steps(rt, row, &mut disk, steps);
+    assert_eq!(rt; check_disk_steps(&mut disk, steps), Ok(()), "row {row}");
 }
 
 // Tries the case of a row.

@@ -28,7 +28,7 @@ fn join<P: Chip + Drop, Q: Chip + Drop>(
     match ChipPair::new(first, second) {
         Ok(mut pair) => {
             assert_eq!(rt; Answer::Counted(pair.blocks()), answer, "row {row}");
-            check_steps(rt, row, &mut pair, steps);
+            assert_eq!(rt; check_steps(&mut pair, steps), Ok(()), "row {row}");
         }
         Err(large) => assert_eq!(rt; refused(large.fault), answer, "row {row}"),
     }
