@@ -1,6 +1,7 @@
 // Whether the answers of a run, in which power fails at most once, fit a history.
-use crate::law::{History, is_dark, is_served};
-use history::{Answer, Call};
+use crate::law::{History, is_dark};
+use history::{Answer, Call, Served};
+use std::cmp::Ordering;
 
 // What became of the call in which power failed, as far as the reads after it tell.
 #[derive(Clone, Copy)]
@@ -32,7 +33,7 @@ impl Guess {
         if !self.history.fits(call, answer) {
             self.misfits = self.misfits.saturating_add(1);
         }
-        if is_served(answer) {
+        if answer.is_ok() {
             self.history.count(call);
         }
     }
@@ -71,7 +72,7 @@ impl Judge {
             self.is_on = false;
             return;
         }
-        if let Call::Read(_, _) = call {
+        if matches!(call, Call::Read(..)) {
             self.reads = self.reads.saturating_add(1);
         }
         self.without.hear(call, answer);
@@ -81,12 +82,9 @@ impl Judge {
     // Without power nothing but a power-on is served, and nothing is refused otherwise than for want of power.
     fn hear_off(&mut self, call: &Call, answer: &Answer) {
         match (call, answer) {
-            (Call::PowerOn, Answer::Done) => self.is_on = true,
-            _ => {
-                if !is_dark(answer) {
-                    self.strays = self.strays.saturating_add(1);
-                }
-            }
+            (Call::PowerOn, Ok(Served::Done)) => self.is_on = true,
+            _ if is_dark(answer) => {}
+            _ => self.strays = self.strays.saturating_add(1),
         }
     }
 
@@ -102,12 +100,10 @@ impl Judge {
     fn verdict(&self) -> Verdict {
         let without = self.without.misfits;
         let with = self.with.misfits;
-        let cut_call = if without < with {
-            CutCall::NotCounted
-        } else if with < without {
-            CutCall::Counted
-        } else {
-            CutCall::Untold
+        let cut_call = match without.cmp(&with) {
+            Ordering::Less => CutCall::NotCounted,
+            Ordering::Greater => CutCall::Counted,
+            Ordering::Equal => CutCall::Untold,
         };
         Verdict {
             reads: self.reads,

@@ -1,6 +1,6 @@
 // The law of a cache, told once more and apart from the cache: what the calls make of each address, and what a read of it may answer.
 use device::{DiskAddress, Refusal};
-use history::{Answer, Call};
+use history::{Answer, Call, Served};
 
 // The addresses that the calls use: 0 to 17.
 pub(super) const ADDRESSES: usize = 18;
@@ -15,20 +15,12 @@ enum Slot {
 
 // The number of a block that is written.
 fn number_in(bytes: &[u8]) -> u8 {
-    match bytes.first() {
-        Some(number) => *number,
-        None => 0,
-    }
+    bytes.first().copied().unwrap_or(0)
 }
 
 // Whether every byte of a block is this number.
 fn is_block(bytes: &[u8], number: u8) -> bool {
-    for byte in bytes {
-        if *byte != number {
-            return false;
-        }
-    }
-    true
+    bytes.iter().all(|byte| *byte == number)
 }
 
 impl Slot {
@@ -42,10 +34,10 @@ impl Slot {
     // Whether a read may answer this.
     fn fits(self, answer: &Answer) -> bool {
         match (self, answer) {
-            (Slot::Absent, Answer::Refused(fault)) => fault.refusal == Refusal::NotHeld,
-            (Slot::Cached(_), Answer::Refused(fault)) => fault.refusal == Refusal::NotHeld,
-            (Slot::Cached(number), Answer::Data(block)) => is_block(block, number),
-            (Slot::Kept(number), Answer::Data(block)) => is_block(block, number),
+            (Slot::Absent | Slot::Cached(_), Err(fault)) => fault.refusal == Refusal::NotHeld,
+            (Slot::Cached(number) | Slot::Kept(number), Ok(Served::Data(block))) => {
+                is_block(block, number)
+            }
             _ => false,
         }
     }
@@ -65,10 +57,10 @@ impl History {
     }
 
     fn slot(&self, address: DiskAddress) -> Slot {
-        match self.slots.get(address.0 as usize) {
-            Some(slot) => *slot,
-            None => Slot::Absent,
-        }
+        self.slots
+            .get(address.0 as usize)
+            .copied()
+            .unwrap_or(Slot::Absent)
     }
 
     fn put(&mut self, address: DiskAddress, slot: Slot) {
@@ -92,23 +84,13 @@ impl History {
     pub(super) fn fits(&self, call: &Call, answer: &Answer) -> bool {
         match call {
             Call::Read(address, _) => self.slot(*address).fits(answer),
-            Call::PowerOn => is_served(answer),
+            Call::PowerOn => answer.is_ok(),
             _ => true,
         }
     }
 }
 
-pub(super) fn is_served(answer: &Answer) -> bool {
-    match answer {
-        Answer::Refused(_) => false,
-        _ => true,
-    }
-}
-
 // Refused with number 1.
 pub(super) fn is_dark(answer: &Answer) -> bool {
-    match answer {
-        Answer::Refused(fault) => fault.refusal == Refusal::PowerOff,
-        _ => false,
-    }
+    matches!(answer, Err(fault) if fault.refusal == Refusal::PowerOff)
 }

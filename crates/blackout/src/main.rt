@@ -1,7 +1,6 @@
 // A cache through power cuts: three nights told call by call, and a sweep over every place where power can fail.
 #![tactic(auto)]
 
-mod blocks;
 mod cuts;
 mod judge;
 mod law;

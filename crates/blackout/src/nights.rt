@@ -1,9 +1,10 @@
 // Three nights: power fails at the same chip call of the same write, and the cut leaves its log page old, new or torn.
-use crate::blocks::{BLOCK, BUFFER, block_of};
-use crate::cuts::{Fate, clear, run_cut, set_fate};
-use crate::lines::{called, say_all, say_refused};
+use crate::cuts::{clear, run_cut, set_fate};
+use crate::lines::{COLUMNS, say_all};
+use crate::rounds::BUFFER;
+use bench::{BLOCK, Fate, block_of, refused};
 use device::DiskAddress;
-use history::{Answer, Call, Outcome};
+use history::{Answer, Call, NotRun, Served};
 use std::alloc::Global;
 use std::io;
 
@@ -65,15 +66,9 @@ fn say_beginning(rt: &impl Print) -> io::Result<()> {
 fn read_back(answers: &[Answer], blocks: &[[u8; BLOCK]; 2]) -> &'static str {
     let [first, second] = blocks;
     match answers.last() {
-        Some(Answer::Data(block)) => {
-            if block.as_slice() == first.as_slice() {
-                "the first one"
-            } else if block.as_slice() == second.as_slice() {
-                "the second one"
-            } else {
-                "neither of the two"
-            }
-        }
+        Some(Ok(Served::Data(block))) if block == first => "the first one",
+        Some(Ok(Served::Data(block))) if block == second => "the second one",
+        Some(Ok(Served::Data(_))) => "neither of the two",
         _ => "none",
     }
 }
@@ -98,11 +93,11 @@ fn pass(rt: &impl Print, heap: Global, image: &mut [u8], night: &Night) -> io::R
     println!(rt; "{words}")?;
     clear(image);
     set_fate(image, LOG_PAGE, night.fate);
-    called(rt, "form")?;
+    COLUMNS.called(rt, "form")?;
     match run_cut(heap, image, FUSE, &calls) {
-        Outcome::NoMemory => println!(rt; "no memory"),
-        Outcome::NotFormed(fault) => say_refused(rt, fault),
-        Outcome::Answered(answers) => {
+        Err(NotRun::NoMemory) => println!(rt; "no memory"),
+        Err(NotRun::NotFormed(fault)) => refused(rt, fault),
+        Ok(answers) => {
             println!(rt; "served")?;
             say_all(rt, &calls, answers.as_slice())?;
             let block = read_back(answers.as_slice(), &blocks);
@@ -114,7 +109,7 @@ fn pass(rt: &impl Print, heap: Global, image: &mut [u8], night: &Night) -> io::R
 // The three nights.
 pub(super) fn run(rt: &impl Print, heap: Global, image: &mut [u8]) -> io::Result<()> {
     say_beginning(rt)?;
-    for night in NIGHTS.iter() {
+    for night in &NIGHTS {
         pass(rt, heap, image, night)?;
     }
     Ok(())

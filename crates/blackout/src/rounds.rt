@@ -1,9 +1,12 @@
 // The calls of the sweep: rounds of the same steps, each of which writes a block of its own.
-use crate::blocks::{BLOCK, BUFFER};
 use crate::law::ADDRESSES;
+use bench::BLOCK;
 use device::DiskAddress;
 use history::Call;
 use std::alloc::{AllocError, Global};
+
+// The bytes of a block, as a read is given them.
+pub(super) const BUFFER: u16 = BLOCK as u16;
 
 // A call, but for the block that it writes.
 enum Step {
@@ -54,7 +57,7 @@ const STEPS: usize = 26;
 const ROUNDS: u32 = 5;
 
 // The calls of all rounds.
-const CALLS: u8 = 130;
+const CALLS: u8 = STEPS as u8 * ROUNDS as u8;
 
 // The first of the addresses that one round alone uses.
 const FIRST_ONCE: u32 = 8;
@@ -89,11 +92,7 @@ impl Step {
 
 // A block for each call, with the call's number in every byte.
 pub(super) fn blocks(heap: Global) -> Result<Vec<[u8; BLOCK]>, AllocError> {
-    let mut blocks = Vec::new(heap);
-    for number in 0..CALLS {
-        blocks.push([number; BLOCK])?;
-    }
-    Ok(blocks)
+    (0..CALLS).map(|number| [number; BLOCK]).collect(heap)
 }
 
 // The calls by themselves, and followed by a power-on and a read of each address.
@@ -117,18 +116,19 @@ fn calls<'a>(heap: Global, blocks: &'a [[u8; BLOCK]]) -> Result<Vec<Call<'a>>, A
 // Adds a power-on and a read of each address.
 fn add_reads(calls: &mut Vec<Call>) -> Result<(), AllocError> {
     calls.push(Call::PowerOn)?;
-    for address in 0..ADDRESSES {
-        calls.push(Call::Read(DiskAddress(address as u32), BUFFER))?;
+    for address in 0..ADDRESSES as u32 {
+        calls.push(Call::Read(DiskAddress(address), BUFFER))?;
     }
     Ok(())
 }
 
 // The calls that write these blocks.
 pub(super) fn work_of<'a>(heap: Global, blocks: &'a [[u8; BLOCK]]) -> Result<Work<'a>, AllocError> {
-    let mut calls_and_reads = calls(heap, blocks)?;
+    let calls = calls(heap, blocks)?;
+    let mut calls_and_reads = calls.clone()?;
     add_reads(&mut calls_and_reads)?;
     Ok(Work {
-        calls: calls(heap, blocks)?,
+        calls,
         calls_and_reads,
     })
 }

@@ -1,12 +1,13 @@
 // A sweep: the same calls with power failing at each chip call in turn, and each page that is unsettled then old, new and torn.
-use crate::cuts::{Fate, clear, run_cut, set_fate, unsettled};
-use crate::judge::{Verdict, judge_run};
+use crate::cuts::{clear, run_cut, set_fate, unsettled};
+use crate::judge::judge_run;
 use crate::law::is_dark;
 use crate::rounds;
 use crate::rounds::Work;
 use crate::totals::Totals;
+use bench::Fate;
 use device::Refusal;
-use history::{Answer, Call, Outcome};
+use history::{Answer, Call, NotRun};
 use std::alloc::{AllocError, Global};
 use std::io;
 
@@ -30,93 +31,86 @@ enum Stop {
     Nowhere,
 }
 
-fn any_dark(answers: &[Answer]) -> bool {
-    for answer in answers {
-        if is_dark(answer) {
-            return true;
-        }
+// The error of a run in which no call was made.
+fn error_of(reason: NotRun) -> io::Error {
+    match reason {
+        NotRun::NotFormed(_) => io::Error::other("the cache is not formed"),
+        NotRun::NoMemory => io::Error::from(AllocError),
     }
-    false
 }
 
 // Where power failed in a run of the calls.
-fn stop_of(outcome: &Outcome) -> io::Result<Stop> {
-    match outcome {
-        Outcome::Answered(answers) if any_dark(answers.as_slice()) => Ok(Stop::InCall),
-        Outcome::Answered(_) => Ok(Stop::Nowhere),
-        Outcome::NotFormed(fault) if fault.refusal == Refusal::PowerOff => Ok(Stop::InForm),
-        Outcome::NotFormed(_) => Err(io::Error::other("the cache is not formed")),
-        Outcome::NoMemory => Err(io::Error::from(AllocError)),
+fn stop_of(run: Result<Vec<Answer>, NotRun>) -> io::Result<Stop> {
+    match run {
+        Err(NotRun::NotFormed(fault)) if fault.refusal == Refusal::PowerOff => Ok(Stop::InForm),
+        Err(reason) => Err(error_of(reason)),
+        Ok(answers) if answers.iter().any(is_dark) => Ok(Stop::InCall),
+        Ok(_) => Ok(Stop::Nowhere),
     }
 }
 
-// Makes the calls, the power-on and the reads with one cut, and judges them.
-fn judge_cut(heap: Global, image: &mut [u8], calls: &[Call], cut: Cut) -> io::Result<Verdict> {
-    clear(image);
-    set_fate(image, cut.page, cut.fate);
-    match run_cut(heap, image, cut.fuse, calls) {
-        Outcome::Answered(answers) => Ok(judge_run(calls, answers.as_slice())),
-        Outcome::NotFormed(_) => Err(io::Error::other("the cache is not formed")),
-        Outcome::NoMemory => Err(io::Error::from(AllocError)),
-    }
-}
-
-// Makes the cuts at a position: every unsettled page old, and then one of them new or torn.
-fn cut_each(
+// The memory and the image that a sweep works with, its calls, and what it has counted so far.
+#[derive(Drop)]
+struct Sweep<'image, 'blocks> {
     heap: Global,
-    image: &mut [u8],
-    work: &Work,
-    fuse: u32,
-    totals: &mut Totals,
-) -> io::Result<()> {
-    let calls = work.calls_and_reads.as_slice();
-    let pages = unsettled(heap, image)?;
-    let all_old = Cut {
-        fuse,
-        page: 0,
-        fate: Fate::Old,
-    };
-    totals.add_cut(judge_cut(heap, image, calls, all_old)?);
-    for page in pages.iter() {
-        for fate in [Fate::New, Fate::Torn] {
-            let cut = Cut {
-                fuse,
-                page: *page,
-                fate,
-            };
-            totals.add_cut(judge_cut(heap, image, calls, cut)?);
-        }
-    }
-    Ok(())
+    image: &'image mut [u8],
+    work: Work<'blocks>,
+    totals: Totals,
 }
 
-// Makes the calls by themselves, to learn where power fails and which pages are unsettled then, and then the cuts.
-fn visit(
-    heap: Global,
-    image: &mut [u8],
-    work: &Work,
-    fuse: u32,
-    totals: &mut Totals,
-) -> io::Result<Stop> {
-    clear(image);
-    let stop = stop_of(&run_cut(heap, image, fuse, work.calls.as_slice()))?;
-    totals.add_position();
-    match stop {
-        Stop::InForm => totals.add_in_form(),
-        _ => cut_each(heap, image, work, fuse, totals)?,
+impl Sweep<'_, '_> {
+    // Makes the calls, the power-on and the reads with one cut, and judges and counts them.
+    fn make(&mut self, cut: Cut) -> io::Result<()> {
+        let calls = self.work.calls_and_reads.as_slice();
+        clear(self.image);
+        set_fate(self.image, cut.page, cut.fate);
+        let answers = run_cut(self.heap, self.image, cut.fuse, calls).map_err(error_of)?;
+        self.totals.add_cut(judge_run(calls, answers.as_slice()));
+        Ok(())
     }
-    Ok(stop)
-}
 
-// Visits one position after the other, until the fuse outlasts the calls.
-fn visit_all(heap: Global, image: &mut [u8], work: &Work) -> io::Result<Totals> {
-    let mut totals = Totals::new();
-    for fuse in 0..LIMIT {
-        if let Stop::Nowhere = visit(heap, image, work, fuse, &mut totals)? {
-            return Ok(totals);
+    // Makes the cuts at a position: every unsettled page old, and then one of them new or torn.
+    fn cut_each(&mut self, fuse: u32) -> io::Result<()> {
+        let pages = unsettled(self.heap, self.image)?;
+        self.make(Cut {
+            fuse,
+            page: 0,
+            fate: Fate::Old,
+        })?;
+        for page in pages.iter() {
+            for fate in [Fate::New, Fate::Torn] {
+                self.make(Cut {
+                    fuse,
+                    page: *page,
+                    fate,
+                })?;
+            }
         }
+        Ok(())
     }
-    Err(io::Error::other("the sweep did not come to its end"))
+
+    // Makes the calls by themselves, to learn where power fails and which pages are unsettled then, and then the cuts.
+    fn visit(&mut self, fuse: u32) -> io::Result<Stop> {
+        clear(self.image);
+        let calls = self.work.calls.as_slice();
+        let stop = stop_of(run_cut(self.heap, self.image, fuse, calls))?;
+        self.totals.add_position();
+        match stop {
+            Stop::InForm => self.totals.add_in_form(),
+            _ => self.cut_each(fuse)?,
+        }
+        Ok(stop)
+    }
+
+    // Visits one position after the other, until the fuse outlasts the calls.
+    fn visit_all(&mut self) -> io::Result<()> {
+        for fuse in 0..LIMIT {
+            if let Stop::Nowhere = self.visit(fuse)? {
+                return Ok(());
+            }
+        }
+        Err(io::Error::other("the sweep did not come to its end"))
+    }
 }
 
 fn say_beginning(rt: &impl Print, calls: usize) -> io::Result<()> {
@@ -142,5 +136,12 @@ pub(super) fn run(rt: &impl Print, heap: Global, image: &mut [u8]) -> io::Result
     let blocks = rounds::blocks(heap)?;
     let work = rounds::work_of(heap, blocks.as_slice())?;
     say_beginning(rt, work.calls.len())?;
-    visit_all(heap, image, &work)?.say(rt)
+    let mut sweep = Sweep {
+        heap,
+        image,
+        work,
+        totals: Totals::default(),
+    };
+    sweep.visit_all()?;
+    sweep.totals.say(rt)
 }

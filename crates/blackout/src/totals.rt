@@ -2,7 +2,7 @@
 use crate::judge::{CutCall, Verdict};
 use std::io;
 
-#[derive(Clone, Copy)]
+#[derive(Clone, Copy, Default)]
 pub(super) struct Totals {
     // where the fuse was spent, from 0 chip calls on
     positions: u32,
@@ -19,19 +19,6 @@ pub(super) struct Totals {
 }
 
 impl Totals {
-    pub(super) fn new() -> Totals {
-        Totals {
-            positions: 0,
-            in_form: 0,
-            cuts: 0,
-            reads: 0,
-            broken: 0,
-            counted: 0,
-            not_counted: 0,
-            untold: 0,
-        }
-    }
-
     pub(super) fn add_position(&mut self) {
         self.positions = self.positions.saturating_add(1);
     }
@@ -52,14 +39,16 @@ impl Totals {
     }
 
     pub(super) fn say(&self, rt: &impl Print) -> io::Result<()> {
-        let positions = self.positions;
-        let in_form = self.in_form;
-        let cuts = self.cuts;
-        let reads = self.reads;
-        let broken = self.broken;
-        let counted = self.counted;
-        let not_counted = self.not_counted;
-        let untold = self.untold;
+        let Totals {
+            positions,
+            in_form,
+            cuts,
+            reads,
+            broken,
+            counted,
+            not_counted,
+            untold,
+        } = *self;
         println!(rt;
             "The call in which power failed: it counted after {counted} cuts and did not after {not_counted}; the reads fit both after {untold}."
         )?;

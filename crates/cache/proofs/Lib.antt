@@ -1,2 +1,2 @@
-pub mod Calling
-pub mod Starting
+mod Calling
+mod Starting

@@ -9,17 +9,6 @@ ghost use Rattle.cache.specs.Refusals.{write_refusal, held_refusal, exists_refus
 use crate::working::Cache;
 use device::{Chip, DataPage, DiskAddress, Fault, Layer, Refusal};
 
-// A refusal of the cache's own, at an address.
-fn refused(address: DiskAddress, refusal: Refusal) -> Fault
-    ensures { result ≡ cache_fault address.0 refusal }
-{
-    Fault {
-        refusal,
-        layer: Layer::Cache,
-        place: address.0,
-    }
-}
-
 // A block has 512 bytes.
 pub(crate) fn check_block(address: DiskAddress, len: usize) -> Result<(), Fault>
     ensures { elim result [ Ok x ↦ write_refusal None address.0 len ≡ None | Err f ↦ write_refusal None address.0 len ≡ Some f ] }
@@ -27,7 +16,7 @@ pub(crate) fn check_block(address: DiskAddress, len: usize) -> Result<(), Fault>
     if len == 512 {
         Ok(())
     } else {
-        Err(refused(address, Refusal::BadSize))
+        Err(Refusal::BadSize.at(Layer::Cache, address.0))
     }
 }
 
@@ -36,11 +25,21 @@ pub(crate) fn check_marks(first: DiskAddress, len: usize) -> Result<(), Fault>
     ensures { elim result [ Ok x ↦ exists_refusal None first.0 len ≡ None | Err f ↦ exists_refusal None first.0 len ≡ Some f ] }
 {
     if len < 1 || len > 512 {
-        Err(refused(first, Refusal::BadSize))
+        Err(Refusal::BadSize.at(Layer::Cache, first.0))
     } else if first.0 as usize + len > 4_294_967_296 {
-        Err(refused(first, Refusal::OutOfRange))
+        Err(Refusal::OutOfRange.at(Layer::Cache, first.0))
     } else {
         Ok(())
+    }
+}
+
+// What an answer leaves of a cache that was on: power that failed puts it off.
+pub(crate) fn off_after(answer: Result<(), Fault>) -> Option<Fault>
+    ensures { result ≡ off_after answer }
+{
+    match answer {
+        Err(fault) if fault.refusal == Refusal::PowerOff => Some(fault),
+        _ => None,
     }
 }
 
@@ -59,24 +58,9 @@ impl<C: Chip> Cache<C> {
     pub(crate) fn page_of(&self, address: DiskAddress) -> Result<DataPage, Fault>
         ensures { elim result [ Ok p ↦ (held_refusal (noted self.now.journal).table address.0 ≡ None) × Finds (noted self.now.journal).table address.0 (Some p) | Err f ↦ held_refusal (noted self.now.journal).table address.0 ≡ Some f ] }
     {
-        match self.journal.table().find(address) {
+        match self.memory.journal.table().find(address) {
             Some(page) => Ok(page),
-            None => Err(refused(address, Refusal::NotHeld)),
+            None => Err(Refusal::NotHeld.at(Layer::Cache, address.0)),
         }
-    }
-
-    // Puts the cache off if power failed, and hands the answer on.
-    pub(crate) fn remember(&mut self, answer: Result<(), Fault>) -> Result<(), Fault>
-        requires { self.old.off ≡ None }
-        ensures answer { result ≡ answer }
-        ensures off { self.new ≡ record { chip = self.old.chip; journal = self.old.journal; space = self.old.space; off = off_after answer } }
-    {
-        if let Err(fault) = answer {
-            match fault.refusal {
-                Refusal::PowerOff => self.off = Some(fault),
-                _ => {}
-            }
-        }
-        answer
     }
 }

@@ -1,8 +1,8 @@
 // The calls of a working cache.
 ghost use Rattle.std.specs.Prelude.{◌≡◌, true, false, length};
-ghost use Rattle.cache.specs.Caches.{Sound, WriteCall, ReadCall, EvictCall, CleanCall, ExistsCall, SyncCall, PowerCall};
+ghost use Rattle.cache.specs.Caches.{WriteCall, ReadCall, EvictCall, CleanCall, ExistsCall, SyncCall, PowerCall};
 
-use crate::checks::{check_block, check_marks};
+use crate::checks::{check_block, check_marks, off_after};
 use crate::working::Cache;
 use device::{Chip, DiskAddress, Fault};
 use engine::Memory;
@@ -11,8 +11,6 @@ use layout::Mark;
 impl<C: Chip> Cache<C> {
     // Writes a block that is newer than the disk's: it is kept until it is evicted or marked clean.
     pub fn write_dirty(&mut self, address: DiskAddress, bytes: &[u8]) -> Result<(), Fault>
-        requires { Sound C.Chip.meaning C.Chip.sound self.old }
-        ensures sound { Sound C.Chip.meaning C.Chip.sound self.new }
         ensures size { self.new.journal.geometry ≡ self.old.journal.geometry }
         ensures call { WriteCall C.Chip.meaning true address.0 bytes.now self.old result self.new }
     {
@@ -21,8 +19,6 @@ impl<C: Chip> Cache<C> {
 
     // Writes a block as the disk has it: it may be dropped when room is needed.
     pub fn write_clean(&mut self, address: DiskAddress, bytes: &[u8]) -> Result<(), Fault>
-        requires { Sound C.Chip.meaning C.Chip.sound self.old }
-        ensures sound { Sound C.Chip.meaning C.Chip.sound self.new }
         ensures size { self.new.journal.geometry ≡ self.old.journal.geometry }
         ensures call { WriteCall C.Chip.meaning false address.0 bytes.now self.old result self.new }
     {
@@ -30,71 +26,53 @@ impl<C: Chip> Cache<C> {
     }
 
     fn write(&mut self, dirty: bool, address: DiskAddress, bytes: &[u8]) -> Result<(), Fault>
-        requires { Sound C.Chip.meaning C.Chip.sound self.old }
-        ensures sound { Sound C.Chip.meaning C.Chip.sound self.new }
         ensures size { self.new.journal.geometry ≡ self.old.journal.geometry }
         ensures call { WriteCall C.Chip.meaning dirty address.0 bytes.now self.old result self.new }
     {
         self.awake()?;
         check_block(address, bytes.len())?;
-        let answer = engine::write(
-            &mut self.chip,
-            &mut self.journal,
-            &mut self.space,
-            dirty,
-            address,
-            bytes,
-        );
-        self.remember(answer)
+        let answer = self.memory.write(&mut self.chip, dirty, address, bytes);
+        self.off = off_after(answer);
+        answer
     }
 
     // Puts the data of an address that is held into the buffer.
     pub fn read(&mut self, address: DiskAddress, buf: &mut [u8]) -> Result<(), Fault>
-        requires { Sound C.Chip.meaning C.Chip.sound self.old }
-        ensures sound { Sound C.Chip.meaning C.Chip.sound self.new }
         ensures size { self.new.journal.geometry ≡ self.old.journal.geometry }
         ensures call { ReadCall C.Chip.meaning address.0 buf.old self.old result buf.new self.new }
     {
         self.awake()?;
         check_block(address, buf.len())?;
         let page = self.page_of(address)?;
-        let answer = engine::fetch(
-            &mut self.chip,
-            &self.journal,
-            &self.space,
-            address,
-            page,
-            buf,
-        );
-        self.remember(answer)
+        let answer = self.memory.fetch(&mut self.chip, address, page, buf);
+        self.off = off_after(answer);
+        answer
     }
 
     // Drops an address that is held, dirty or clean.
     pub fn evict(&mut self, address: DiskAddress) -> Result<(), Fault>
-        requires { Sound C.Chip.meaning C.Chip.sound self.old }
-        ensures sound { Sound C.Chip.meaning C.Chip.sound self.new }
         ensures size { self.new.journal.geometry ≡ self.old.journal.geometry }
         ensures call { EvictCall C.Chip.meaning address.0 self.old result self.new }
     {
         self.awake()?;
         self.page_of(address)?;
-        let answer = engine::evict(&mut self.chip, &mut self.journal, &self.space, address);
-        self.remember(answer)
+        let answer = self.memory.evict(&mut self.chip, address);
+        self.off = off_after(answer);
+        answer
     }
 
     // Marks an address that is held clean: the disk has it now.
     pub fn clean(&mut self, address: DiskAddress) -> Result<(), Fault>
-        requires { Sound C.Chip.meaning C.Chip.sound self.old }
-        ensures sound { Sound C.Chip.meaning C.Chip.sound self.new }
         ensures size { self.new.journal.geometry ≡ self.old.journal.geometry }
         ensures call { CleanCall C.Chip.meaning address.0 self.old result self.new }
     {
         self.awake()?;
         let page = self.page_of(address)?;
-        match self.journal.table().entry(page).mark {
+        match self.memory.journal.table().entry(page).mark {
             Mark::Dirty => {
-                let answer = engine::clean(&mut self.chip, &mut self.journal, &self.space, address);
-                self.remember(answer)
+                let answer = self.memory.clean(&mut self.chip, address);
+                self.off = off_after(answer);
+                answer
             }
             Mark::Clean | Mark::Empty => Ok(()),
         }
@@ -102,40 +80,34 @@ impl<C: Chip> Cache<C> {
 
     // Fills the buffer with the marks of as many addresses from the first on: 0 not held, 1 clean, 2 dirty.
     pub fn exists(&self, first: DiskAddress, marks: &mut [u8]) -> Result<(), Fault>
-        requires { Sound C.Chip.meaning C.Chip.sound self.now }
         ensures { ExistsCall C.Chip.meaning first.0 marks.old self.now result marks.new }
     {
         self.awake()?;
         check_marks(first, marks.len())?;
-        self.journal.table().marks(first, marks);
+        self.memory.journal.table().marks(first, marks);
         Ok(())
     }
 
     // Commits what is staged.
     pub fn sync(&mut self) -> Result<(), Fault>
-        requires { Sound C.Chip.meaning C.Chip.sound self.old }
-        ensures sound { Sound C.Chip.meaning C.Chip.sound self.new }
         ensures size { self.new.journal.geometry ≡ self.old.journal.geometry }
         ensures call { SyncCall C.Chip.meaning self.old result self.new }
     {
         self.awake()?;
-        let answer = engine::flush(&mut self.chip, &mut self.journal, &self.space);
-        self.remember(answer)
+        let answer = self.memory.flush(&mut self.chip);
+        self.off = off_after(answer);
+        answer
     }
 
     // Powers the chip on and recovers the table; the only call that a cache takes while it is off.
     pub fn power_on(&mut self) -> Result<(), Fault>
-        requires { Sound C.Chip.meaning C.Chip.sound self.old }
-        ensures sound { Sound C.Chip.meaning C.Chip.sound self.new }
         ensures size { self.new.journal.geometry ≡ self.old.journal.geometry }
         ensures call { PowerCall C.Chip.meaning self.old result self.new }
     {
-        let geometry = self.journal.geometry();
-        match engine::wake(&mut self.chip, geometry) {
+        let geometry = self.memory.journal.geometry();
+        match Memory::wake(&mut self.chip, geometry) {
             Ok(memory) => {
-                let Memory { journal, space } = memory;
-                self.journal = journal;
-                self.space = space;
+                self.memory = memory;
                 self.off = None;
                 Ok(())
             }
@@ -152,8 +124,7 @@ impl<C: Chip> Cache<C> {
     {
         let Cache {
             chip,
-            journal: _,
-            space: _,
+            memory: _,
             off: _,
         } = self;
         chip

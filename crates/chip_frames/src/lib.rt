@@ -1,130 +1,81 @@
 // The frames of a chip image: what each call of an image chip does to their bytes.
 #![tactic(auto)]
 
-ghost use Rattle.std.specs.Prelude.{◌≡◌, ℕ, ◌+◌, ◌*◌, ◌/◌, ◌<◌, ◌≤◌, length, if◌then◌else◌, MatchOption, nat_eq};
-ghost use Rattle.device.specs.Chips.{block_of, unsettled_in};
-ghost use Rattle.chip_frames.specs.Frames.{blocks_in, note_at, data_at, page_of, settled_state, erased_state, cut_state, by_fate, unsettled_state, Restated, settling, erasing, cutting, Framed, Listed, FirstBad};
+ghost use Rattle.std.specs.Prelude.{◌≡◌, ℕ, ◌+◌, ◌*◌, ◌/◌, ◌%◌, ◌<◌, ◌≤◌, ◌≢◌, length, min, MatchOption, slice_index};
+ghost use Rattle.std.specs.Simd.{first_chunks};
+ghost use Rattle.device.specs.Chips.{unsettled_in};
+ghost use Rattle.chip_frames.specs.Frames.{blocks_in, note_at, data_at, page_of, state_at, fate_at, Restated, settling, erasing, cutting, Framed, Listed, FirstBad};
+ghost use Rattle.chip_frames.specs.Codes.{Changes};
 
-use device::{ChipPage, EraseBlock};
+mod states;
+
+use device::{EraseBlock, Note};
+pub use states::{Fate, State};
+use std::ops::Range;
 
 // The bytes of a frame.
 pub const FRAME: usize = 520;
 
-// The erase blocks in an image of `len` bytes.
+// Where in a frame its data begins.
+const DATA: usize = 8;
+
+// The bytes of an erase block's frames.
+const BLOCK: usize = 8 * FRAME;
+
+// The erase blocks in an image.
 pub fn blocks_in(image: &[u8]) -> usize
     ensures { result ≡ blocks_in image.now }
 {
-    image.len() / 4160
+    image.len() / BLOCK
+}
+
+// The frames of an image, one for each page.
+fn frames_of(image: &[u8]) -> &[[u8; FRAME]]
+    ensures frames { result.now ≡ first_chunks 520 (length image.now / 520) image.now }
+    ensures count { length result.now ≡ length image.now / 520 }
+{
+    let (frames, _) = image.as_chunks();
+    frames
 }
 
 // Makes the frame of page `p` held and unsettled, was blank.
-pub fn write_frame(image: &mut [u8], p: usize, note: (u8, u8, u32), bytes: &[u8])
+pub fn write_frame(image: &mut [u8], p: usize, note: Note, bytes: &[u8])
     requires inside { 520 * p + 520 ≤ length image.old }
     requires whole { length bytes.now ≡ 512 }
     ensures { Framed image.old p note bytes.now image.new }
 {
-    let i = 520 * p;
-    let [a, b, c, d] = note.2.to_be_bytes();
-    let head = [3, image[i + 1], note.0, note.1, a, b, c, d];
-    image[i..i + 8].copy_from_slice(&head);
-    image[i + 8..i + 520].copy_from_slice(bytes);
-}
-
-// The note of the frame at byte `i`.
-fn note_of(image: &[u8], i: usize) -> (u8, u8, u32)
-    requires inside { i + 520 ≤ length image.now }
-    ensures { result ≡ note_at image.now i }
-{
-    let address = u32::from_be_bytes([image[i + 4], image[i + 5], image[i + 6], image[i + 7]]);
-    (image[i + 2], image[i + 3], address)
-}
-
-// Copies the data of the frame at byte `i` into a buffer.
-fn copy_data(image: &[u8], i: usize, buf: &mut [u8])
-    requires inside { i + 520 ≤ length image.now }
-    requires whole { length buf.old ≡ 512 }
-    ensures { buf.new ≡ data_at image.now i }
-{
-    buf.copy_from_slice(&image[i + 8..i + 520]);
+    let (kind, count, address) = note;
+    let [a, b, c, d] = address.to_be_bytes();
+    let i = FRAME * p;
+    let frame = &mut image[i..i + FRAME];
+    frame[0] = State::Programmed.number();
+    frame[2..DATA].copy_from_slice(&[kind, count, a, b, c, d]);
+    frame[DATA..].copy_from_slice(bytes);
 }
 
 // Copies the data of page `p` into a buffer, and answers its note.
-pub fn read_frame(image: &[u8], p: usize, buf: &mut [u8]) -> (u8, u8, u32)
+pub fn read_frame(image: &[u8], p: usize, buf: &mut [u8]) -> Note
     requires inside { 520 * p + 520 ≤ length image.now }
     requires whole { length buf.old ≡ 512 }
     ensures note { result ≡ note_at image.now (520 * p) }
     ensures bytes { buf.new ≡ data_at image.now (520 * p) }
 {
-    copy_data(image, 520 * p, buf);
-    note_of(image, 520 * p)
+    let frame = &frames_of(image)[p];
+    buf.copy_from_slice(&frame[DATA..]);
+    let [_, _, kind, count, a, b, c, d, ..] = *frame;
+    (kind, count, u32::from_be_bytes([a, b, c, d]))
 }
 
-// A state byte once its page is settled as it now reads.
-fn settled_byte(state: u8) -> u8
-    ensures { result ≡ settled_state state }
+// Gives each frame another state, which hangs on the state and the fate that it has.
+fn restate<F: Fn(State, Fate) -> State>(image: &mut [u8], change: F)
+    requires { F.IsAlwaysCallable change }
+    ensures states { (p : ℕ) → p < length image.old / 520 → Changes (F.post change) (state_at image.old p) (fate_at image.old p) (state_at image.new p) }
+    ensures others { (k : ℕ) → (k % 520 ≢ 0) → slice_index image.new k ≡ slice_index image.old k }
 {
-    match state {
-        0 | 4 | 5 => 0,
-        1 | 3 => 1,
-        _ => 2,
-    }
-}
-
-// A state byte once its page is erased.
-fn erased_byte(state: u8) -> u8
-    ensures { result ≡ erased_state state }
-{
-    match state {
-        0 => 0,
-        1 | 4 => 4,
-        3 => 3,
-        _ => 5,
-    }
-}
-
-// The same if the page lies in the erase block, else the state byte as it is.
-fn erased_in(state: u8, page: ChipPage, block: EraseBlock) -> u8
-    ensures { result ≡ (if nat_eq (block_of page.0) block.0 then erased_state state else state) }
-{
-    if page.erase_block().0 == block.0 {
-        erased_byte(state)
-    } else {
-        state
-    }
-}
-
-// The state from before, the new one, or torn.
-fn fated(fate: u8, old: u8, new: u8) -> u8
-    ensures { result ≡ by_fate fate old new }
-{
-    match fate {
-        0 => old,
-        1 => new,
-        _ => 2,
-    }
-}
-
-// A state byte after a power cut.
-fn cut_byte(state: u8, fate: u8) -> u8
-    ensures { result ≡ cut_state state fate }
-{
-    match state {
-        0 => 0,
-        1 => 1,
-        3 => fated(fate, 0, 1),
-        4 => fated(fate, 1, 0),
-        5 => fated(fate, 2, 0),
-        _ => 2,
-    }
-}
-
-// Whether a state byte is that of an unsettled page.
-fn unsettled_byte(state: u8) -> bool
-    ensures { result ≡ unsettled_state state }
-{
-    match state {
-        3..=5 => true,
-        _ => false,
+    // Tried, the proof did not close: `chunks_exact_mut`, since the library does not say what the slice holds afterwards.
+    for p in 0..image.len() / FRAME {
+        let i = FRAME * p;
+        image[i] = change(State::from(image[i]), Fate::from(image[i + 1])).number();
     }
 }
 
@@ -132,41 +83,41 @@ fn unsettled_byte(state: u8) -> bool
 pub fn settle_frames(image: &mut [u8])
     ensures { Restated image.old (settling image.old) image.new }
 {
-    for p in 0..image.len() / 520 {
-        image[520 * p] = settled_byte(image[520 * p]);
-    }
+    restate(image, |state, _| state.settled());
+}
+
+// Where the frames of an erase block stand in an image: nowhere, if the image ends before them.
+fn place_of(image: &[u8], block: EraseBlock) -> Range<usize>
+    ensures start { result.start ≡ min (4160 * block.0) (length image.now) }
+    ensures end { result.end ≡ min (4160 * block.0 + 4160) (length image.now) }
+{
+    let start = BLOCK * block.0 as usize;
+    start.min(image.len())..(start + BLOCK).min(image.len())
 }
 
 // Erases the frames of the pages that lie in the erase block.
 pub fn erase_frames(image: &mut [u8], block: EraseBlock)
-    requires { length image.old ≤ 266240 }
     ensures { Restated image.old (erasing image.old block.0) image.new }
 {
-    for p in 0..image.len() / 520 {
-        image[520 * p] = erased_in(image[520 * p], ChipPage(p as u32), block);
-    }
+    let place = place_of(image, block);
+    restate(&mut image[place], |state, _| state.erased());
+}
+
+// Whether a page that lies in the erase block is unsettled.
+pub fn any_unsettled(image: &[u8], block: EraseBlock) -> bool
+    ensures { result ≡ unsettled_in (page_of image.now) block.0 (length image.now / 520) }
+{
+    let place = place_of(image, block);
+    frames_of(&image[place])
+        .iter()
+        .any(|frame| State::from(frame[0]).is_unsettled())
 }
 
 // Lets a power cut decide each frame by its fate.
 pub fn cut_frames(image: &mut [u8])
     ensures { Restated image.old (cutting image.old) image.new }
 {
-    for p in 0..image.len() / 520 {
-        image[520 * p] = cut_byte(image[520 * p], image[520 * p + 1]);
-    }
-}
-
-// Whether a page that lies in the erase block is unsettled.
-pub fn any_unsettled(image: &[u8], block: EraseBlock) -> bool
-    requires { length image.now ≤ 266240 }
-    ensures { result ≡ unsettled_in (page_of image.now) block.0 (length image.now / 520) }
-{
-    let mut any = false;
-    for p in 0..image.len() / 520 {
-        let inside = ChipPage(p as u32).erase_block().0 == block.0;
-        any = (inside & unsettled_byte(image[520 * p])) | any;
-    }
-    any
+    restate(image, |state, fate| state.cut(fate));
 }
 
 // The first frame whose state is out of the list.
@@ -174,10 +125,7 @@ pub fn first_bad(image: &[u8]) -> Option<u32>
     requires { length image.now ≤ 266240 }
     ensures { MatchOption result (Listed image.now (length image.now / 520)) (FirstBad image.now) }
 {
-    for p in 0..image.len() / 520 {
-        if image[520 * p] > 5 {
-            return Some(p as u32);
-        }
-    }
-    None
+    let last = State::TornErased.number();
+    let p = frames_of(image).iter().position(|frame| frame[0] > last)?;
+    Some(p as u32)
 }

@@ -6,8 +6,6 @@ use recovery::Restored;
 
 // Cuts the power, powers the chip on and reads its mapping table back.
 pub(super) fn find<C: Chip>(chip: &mut C) -> Result<Restored, Fault>
-    requires { C.Chip.sound chip.old }
-    ensures sound { C.Chip.sound chip.new }
     ensures finds { Finds (C.Chip.meaning chip.old) result (C.Chip.meaning chip.new) }
 {
     chip.power_on()?;

@@ -17,7 +17,7 @@ pub(super) fn say_geometry(rt: &impl Print, geometry: Geometry) -> io::Result<()
 }
 
 // An area, in words.
-fn name(area: Area) -> &'static str {
+fn area_name(area: Area) -> &'static str {
     match area {
         Area::One => "one",
         Area::Two => "two",
@@ -26,7 +26,7 @@ fn name(area: Area) -> &'static str {
 
 // The checkpoint and the log.
 fn say_journal(rt: &impl Print, geometry: Geometry, found: &Restored) -> io::Result<()> {
-    let area = name(found.area);
+    let area = area_name(found.area);
     let first = found.area.first().0;
     let number = found.number;
     let next = found.next;
@@ -36,28 +36,29 @@ fn say_journal(rt: &impl Print, geometry: Geometry, found: &Restored) -> io::Res
     println!(rt; "log pages used: {next} of {log}")
 }
 
+// A mark, in words, if it is one.
+fn mark_name(mark: Mark) -> Option<&'static str> {
+    match mark {
+        Mark::Empty => None,
+        Mark::Clean => Some("clean"),
+        Mark::Dirty => Some("dirty"),
+    }
+}
+
 // One marked page.
-fn say_marked(rt: &impl Print, page: DataPage, mark: &str, entry: Entry) -> io::Result<()> {
+fn say_marked(rt: &impl Print, page: DataPage, mark: &str, entry: &Entry) -> io::Result<()> {
     let data = page.0;
     let chip = page.chip_page().0;
     let address = entry.address.0;
     println!(rt; "data page {data}, chip page {chip}: {mark}, disk address {address}")
 }
 
-// The page of an entry, if it has a mark.
-fn say_entry(rt: &impl Print, page: DataPage, entry: Entry) -> io::Result<()> {
-    match entry.mark {
-        Mark::Empty => Ok(()),
-        Mark::Clean => say_marked(rt, page, "clean", entry),
-        Mark::Dirty => say_marked(rt, page, "dirty", entry),
-    }
-}
-
 // The marked pages of a mapping table.
 fn say_entries(rt: &impl Print, table: &MappingTable) -> io::Result<()> {
-    for i in 0..table.len() {
-        let page = DataPage(i);
-        say_entry(rt, page, table.entry(page))?;
+    for (page, entry) in (0..table.len()).map(DataPage).zip(table.as_slice()) {
+        if let Some(mark) = mark_name(entry.mark) {
+            say_marked(rt, page, mark, entry)?;
+        }
     }
     Ok(())
 }

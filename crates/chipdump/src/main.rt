@@ -12,7 +12,7 @@ use std::io::Read;
 use std::{env, io};
 
 // One byte more than the largest image, so that longer input is seen to be too long.
-const LIMIT: u64 = 266_241;
+const LIMIT: u64 = dump::MOST as u64 + 1;
 
 fn main(rt: HostRuntime) -> io::Result<()> {
     // Any word after the program's name asks for help: the image comes on standard input.

@@ -33,11 +33,13 @@ fn say_meaning(rt: &impl Print, fault: Fault) -> io::Result<()> {
 
 // A refusal.
 pub(super) fn say_refused(rt: &impl Print, fault: Fault) -> io::Result<()> {
-    let refusal = fault.refusal;
+    let Fault {
+        refusal,
+        layer,
+        place,
+    } = fault;
     let number = refusal.number();
-    let layer = fault.layer;
     let level = layer.number();
-    let place = fault.place;
     println!(rt; "refused: number {number}, layer {level}, place {place} ({refusal}, {layer})")?;
     say_meaning(rt, fault)
 }

@@ -5,48 +5,37 @@ ghost use Rattle.device.specs.Chips.{Pages, Reads, Programs, Erases, Syncs, Powe
 use crate::faults::Fault;
 use crate::places::{ChipPage, EraseBlock};
 
-// Every chip shows these rules. A note is a page's kind, count and address.
+// What a held page says of itself: its kind, its count and its address.
+pub type Note = (u8, u8, u32);
+
+// Every chip shows these rules.
 pub trait Chip {
     // what the chip is: on or off, its erase blocks, its pages
     ghost meaning: { Self → Pages };
 
-    // what the chip keeps true of itself from call to call; making one establishes it
-    ghost sound: { Self → Type 0 };
-
     // The number of erase blocks, told on or off.
     fn blocks(&self) -> u32
-        requires { sound self.now }
         ensures number { result ≡ (meaning self.now).size }
         ensures some { 0 < result }
         ensures few { result ≤ 64 };
 
     // The note of a held page, with its data put into the buffer.
-    fn read(&mut self, page: ChipPage, buf: &mut [u8]) -> Result<(u8, u8, u32), Fault>
-        requires { sound self.old }
-        ensures sound { sound self.new }
+    fn read(&mut self, page: ChipPage, buf: &mut [u8]) -> Result<Note, Fault>
         ensures rules { Reads (meaning self.old) page.0 buf.old result buf.new (meaning self.new) };
 
     // Makes a settled blank page held.
-    fn program(&mut self, page: ChipPage, note: (u8, u8, u32), bytes: &[u8]) -> Result<(), Fault>
-        requires { sound self.old }
-        ensures sound { sound self.new }
+    fn program(&mut self, page: ChipPage, note: Note, bytes: &[u8]) -> Result<(), Fault>
         ensures rules { Programs (meaning self.old) page.0 note bytes.now result (meaning self.new) };
 
     // Makes the eight pages of an erase block blank.
     fn erase(&mut self, block: EraseBlock) -> Result<(), Fault>
-        requires { sound self.old }
-        ensures sound { sound self.new }
         ensures rules { Erases (meaning self.old) block.0 result (meaning self.new) };
 
     // Settles every page as it now reads.
     fn sync(&mut self) -> Result<(), Fault>
-        requires { sound self.old }
-        ensures sound { sound self.new }
         ensures rules { Syncs (meaning self.old) result (meaning self.new) };
 
     // A power cut, and then power.
     fn power_on(&mut self) -> Result<(), Fault>
-        requires { sound self.old }
-        ensures sound { sound self.new }
         ensures rules { Powers (meaning self.old) result (meaning self.new) };
 }

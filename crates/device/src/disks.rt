@@ -13,9 +13,6 @@ pub trait Disk {
     // what the disk is: on or off, its number of blocks, the blocks
     ghost meaning: { Self → Blocks };
 
-    // what the disk keeps true of itself from call to call; making one establishes it
-    ghost sound: { Self → Type 0 };
-
     // the layer that it names for each of its own refusals
     ghost layer: { Self → Refusal → Layer };
 
@@ -24,32 +21,23 @@ pub trait Disk {
 
     // The number of blocks, told on or off.
     fn blocks(&self) -> u32
-        requires { sound self.now }
         ensures number { result ≡ (meaning self.now).size }
         ensures some { 0 < result }
         ensures few { result ≤ 65536 };
 
     // Puts what a block holds into the buffer.
     fn read(&mut self, block: DiskAddress, buf: &mut [u8]) -> Result<(), Fault>
-        requires { sound self.old }
-        ensures sound { sound self.new }
         ensures rules { BlockReads (layer self.old) (offline self.old) (offline self.new) (meaning self.old) block.0 buf.old result buf.new (meaning self.new) };
 
     // Changes a settled block.
     fn write(&mut self, block: DiskAddress, bytes: &[u8]) -> Result<(), Fault>
-        requires { sound self.old }
-        ensures sound { sound self.new }
         ensures rules { BlockWrites (layer self.old) (offline self.old) (offline self.new) (meaning self.old) block.0 bytes.now result (meaning self.new) };
 
     // Settles every block as it now reads.
     fn sync(&mut self) -> Result<(), Fault>
-        requires { sound self.old }
-        ensures sound { sound self.new }
         ensures rules { BlockSyncs (offline self.old) (offline self.new) (meaning self.old) result (meaning self.new) };
 
     // A power cut, and then power.
     fn power_on(&mut self) -> Result<(), Fault>
-        requires { sound self.old }
-        ensures sound { sound self.new }
         ensures rules { BlockPowers (offline self.new) (meaning self.old) result (meaning self.new) };
 }

@@ -8,38 +8,38 @@ use std::fmt;
 #[derive(Clone, Copy, PartialEq, Eq, Debug)]
 pub enum Refusal {
     // off, or power failed below
-    PowerOff,
+    PowerOff = 1,
     // a buffer, an image or a list of fuses of a wrong size
-    BadSize,
+    BadSize = 2,
     // a page, an erase block or a block that is not there
-    OutOfRange,
+    OutOfRange = 3,
     // a program or a write at an unsettled place, or an erase with an unsettled page inside
-    Unsettled,
+    Unsettled = 4,
     // a program of a settled page that is not blank
-    NotBlank,
+    NotBlank = 5,
     // a read of a torn page
-    Torn,
+    Torn = 6,
     // a read of a blank page
-    Blank,
+    Blank = 7,
     // a read, evict or clean of an address that the cache does not hold
-    NotHeld,
+    NotHeld = 8,
     // no blank page, and a dirty page in every data erase block
-    Full,
+    Full = 9,
     // no checkpoint to recover from
-    NoCheckpoint,
+    NoCheckpoint = 10,
     // a layout or a rule is broken
-    Breach,
+    Breach = 11,
     // a number of erase blocks that does not serve
-    BadGeometry,
+    BadGeometry = 12,
 }
 
 // The layer where a fault arose.
 #[derive(Clone, Copy, PartialEq, Eq, Debug)]
 pub enum Layer {
-    Chip,
-    Cache,
-    Disk,
-    Tier,
+    Chip = 1,
+    Cache = 2,
+    Disk = 3,
+    Tier = 4,
 }
 
 // A refusal, the layer where it arose, and the place: the page, erase block or block that was given, else 0.
@@ -55,19 +55,17 @@ impl Refusal {
     pub fn number(self) -> u8
         ensures { result ≡ refusal_number self }
     {
-        match self {
-            Refusal::PowerOff => 1,
-            Refusal::BadSize => 2,
-            Refusal::OutOfRange => 3,
-            Refusal::Unsettled => 4,
-            Refusal::NotBlank => 5,
-            Refusal::Torn => 6,
-            Refusal::Blank => 7,
-            Refusal::NotHeld => 8,
-            Refusal::Full => 9,
-            Refusal::NoCheckpoint => 10,
-            Refusal::Breach => 11,
-            Refusal::BadGeometry => 12,
+        self as u8
+    }
+
+    // The fault of this refusal, where it arose.
+    pub fn at(self, layer: Layer, place: u32) -> Fault
+        ensures { result ≡ record { refusal = self; layer = layer; place = place } }
+    {
+        Fault {
+            refusal: self,
+            layer,
+            place,
         }
     }
 }
@@ -77,12 +75,7 @@ impl Layer {
     pub fn number(self) -> u8
         ensures { result ≡ layer_number self }
     {
-        match self {
-            Layer::Chip => 1,
-            Layer::Cache => 2,
-            Layer::Disk => 3,
-            Layer::Tier => 4,
-        }
+        self as u8
     }
 }
 

@@ -7,7 +7,7 @@ mod faults;
 mod laws;
 mod places;
 
-pub use chips::Chip;
+pub use chips::{Chip, Note};
 pub use disks::Disk;
 pub use faults::{Fault, Layer, Refusal};
 pub use laws::{

@@ -1,15 +1,15 @@
 // Cases that hold of every chip of two erase blocks: its refusals at their edges, and each state of a page under each call.
 use crate::calls::Answer::{Counted, Done, Found, Refused};
-use crate::calls::Call::{Blocks, Erase, PowerOn, Program, Read, Sync};
 use crate::calls::Step;
-use crate::chip_cases::{Case, Frame, Row};
+use crate::cases::{Case, Row};
+use crate::chip_calls::Call::{Blocks, Erase, PowerOn, Program, Read, Sync};
+use crate::chip_cases::{ChipCase, ChipRow, Frame};
 
 // Refusals at the last good place and the first bad one, at 511, 512 and 513 bytes, and where two conditions hold at once.
-pub(super) const EDGES: &[Case<'static>] = &[
+pub(super) const EDGES: &[ChipCase<'static>] = &[
     // off comes before the size and the place; the number of blocks is told all the same
     Case {
         fuses: &[],
-        others: &[],
         before: &[Frame(15, 1, 0, 5)],
         steps: &[
             Step(Read(15, 512), Refused(1, 1, 15)),
@@ -29,7 +29,6 @@ pub(super) const EDGES: &[Case<'static>] = &[
     // reads: size before place, both before torn and blank
     Case {
         fuses: &[],
-        others: &[],
         before: &[Frame(0, 1, 0, 3), Frame(14, 2, 0, 6), Frame(15, 1, 0, 5)],
         steps: &[
             Step(PowerOn, Done),
@@ -51,7 +50,6 @@ pub(super) const EDGES: &[Case<'static>] = &[
     // programs: size before place, both before unsettled and not blank
     Case {
         fuses: &[],
-        others: &[],
         before: &[Frame(13, 2, 0, 7), Frame(14, 1, 0, 6)],
         steps: &[
             Step(PowerOn, Done),
@@ -74,7 +72,6 @@ pub(super) const EDGES: &[Case<'static>] = &[
     // erases: the last block and the first that is not there; a block twice
     Case {
         fuses: &[],
-        others: &[],
         before: &[Frame(7, 1, 0, 3), Frame(8, 1, 0, 1), Frame(15, 2, 0, 2)],
         steps: &[
             Step(PowerOn, Done),
@@ -88,7 +85,6 @@ pub(super) const EDGES: &[Case<'static>] = &[
     // an erase with its last page unsettled; blank pages are not changed by one, so a second is served too
     Case {
         fuses: &[],
-        others: &[],
         before: &[],
         steps: &[
             Step(PowerOn, Done),
@@ -102,7 +98,6 @@ pub(super) const EDGES: &[Case<'static>] = &[
     // an erase with its first page unsettled; a page settled again is erased
     Case {
         fuses: &[],
-        others: &[],
         before: &[Frame(9, 1, 7, 4)],
         steps: &[
             Step(PowerOn, Done),
@@ -116,7 +111,6 @@ pub(super) const EDGES: &[Case<'static>] = &[
     // a page's life: programmed, settled, erased, settled, programmed again
     Case {
         fuses: &[],
-        others: &[],
         before: &[],
         steps: &[
             Step(PowerOn, Done),
@@ -134,7 +128,7 @@ pub(super) const EDGES: &[Case<'static>] = &[
 ];
 
 // Each state of a page under each call. A page is brought to states 3, 4 and 5 by a program or an erase.
-pub(super) const ROWS: &[Row] = &[
+pub(super) const ROWS: &[ChipRow] = &[
     // 0, blank
     Row(
         Frame(8, 0, 0, 1),

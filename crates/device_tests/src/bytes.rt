@@ -1,4 +1,5 @@
 // Bytes to recognise a page or a block by: each tag stands for a note and for data.
+use std::array;
 
 // What a buffer holds that no call has touched.
 pub(super) const UNTOUCHED: u8 = 0xee;
@@ -14,29 +15,17 @@ fn byte_at(tag: u8, i: usize) -> u8 {
     tag.wrapping_add((i % 251) as u8)
 }
 
-// Fills a buffer with a tag's data.
-pub(super) fn fill(buf: &mut [u8], tag: u8) {
-    for i in 0..buf.len() {
-        buf[i] = byte_at(tag, i);
-    }
+// A tag's data, of so many bytes.
+pub(super) fn data_of<const N: usize>(tag: u8) -> [u8; N] {
+    array::from_fn(|i| byte_at(tag, i))
 }
 
 // Whether a buffer has just a tag's data.
 pub(super) fn has_tag(buf: &[u8], tag: u8) -> bool {
-    for i in 0..buf.len() {
-        if buf[i] != byte_at(tag, i) {
-            return false;
-        }
-    }
-    buf.len() == 512
+    buf == data_of::<512>(tag).as_slice()
 }
 
 // Whether a buffer is as it was before a call.
 pub(super) fn is_untouched(buf: &[u8]) -> bool {
-    for b in buf {
-        if *b != UNTOUCHED {
-            return false;
-        }
-    }
-    true
+    buf.iter().all(|byte| *byte == UNTOUCHED)
 }

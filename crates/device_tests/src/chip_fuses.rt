@@ -1,15 +1,15 @@
 // Cases of an image chip with fuses: which calls count, where power fails, and what that leaves.
 use crate::calls::Answer::{Done, Found, Refused};
-use crate::calls::Call::{Erase, PowerOn, Program, Read, Sync};
 use crate::calls::Step;
-use crate::chip_cases::{Case, Frame};
+use crate::cases::Case;
+use crate::chip_calls::Call::{Erase, PowerOn, Program, Read, Sync};
+use crate::chip_cases::{ChipCase, Frame};
 
 // Power fails in the call that finds its fuse spent, if that call would be served, and never without a fuse. Each power-on
 // takes the next fuse.
-pub(super) const FUSES: &[Case<'static>] = &[
+pub(super) const FUSES: &[ChipCase<'static>] = &[
     Case {
         fuses: &[],
-        others: &[],
         before: &[],
         steps: &[
             Step(PowerOn, Done),
@@ -24,7 +24,6 @@ pub(super) const FUSES: &[Case<'static>] = &[
     // a sync that loses power settles nothing, and the chip is off until the next power-on, which has no fuse
     Case {
         fuses: &[1],
-        others: &[],
         before: &[Frame(3, 0, 0, 4)],
         steps: &[
             Step(PowerOn, Done),
@@ -39,7 +38,6 @@ pub(super) const FUSES: &[Case<'static>] = &[
     },
     Case {
         fuses: &[1],
-        others: &[],
         before: &[Frame(3, 0, 2, 4)],
         steps: &[
             Step(PowerOn, Done),
@@ -55,7 +53,6 @@ pub(super) const FUSES: &[Case<'static>] = &[
     // a program and an erase that lose power change nothing
     Case {
         fuses: &[0],
-        others: &[],
         before: &[],
         steps: &[
             Step(PowerOn, Done),
@@ -66,7 +63,6 @@ pub(super) const FUSES: &[Case<'static>] = &[
     },
     Case {
         fuses: &[0],
-        others: &[],
         before: &[Frame(8, 1, 2, 1), Frame(9, 2, 1, 1)],
         steps: &[
             Step(PowerOn, Done),
@@ -80,7 +76,6 @@ pub(super) const FUSES: &[Case<'static>] = &[
     // with its fuse spent, a call that is refused anyway answers its refusal, and a read is served
     Case {
         fuses: &[1],
-        others: &[],
         before: &[Frame(8, 1, 0, 1)],
         steps: &[
             Step(PowerOn, Done),
@@ -100,7 +95,6 @@ pub(super) const FUSES: &[Case<'static>] = &[
     // refused calls and reads do not count; programs, erases and syncs do
     Case {
         fuses: &[3],
-        others: &[],
         before: &[],
         steps: &[
             Step(PowerOn, Done),
@@ -120,7 +114,6 @@ pub(super) const FUSES: &[Case<'static>] = &[
     // the second and third power-on have their own fuses, the fourth has none
     Case {
         fuses: &[2, 0, 1],
-        others: &[],
         before: &[],
         steps: &[
             Step(PowerOn, Done),
@@ -142,7 +135,6 @@ pub(super) const FUSES: &[Case<'static>] = &[
     // a power-on takes the next fuse, though the last is not spent
     Case {
         fuses: &[5, 0],
-        others: &[],
         before: &[],
         steps: &[
             Step(PowerOn, Done),
@@ -155,7 +147,6 @@ pub(super) const FUSES: &[Case<'static>] = &[
     // all of eight fuses serve, and the largest number does
     Case {
         fuses: &[9, 9, 9, 9, 9, 9, 4294967295, 1],
-        others: &[],
         before: &[],
         steps: &[
             Step(PowerOn, Done),

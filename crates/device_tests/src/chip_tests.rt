@@ -1,8 +1,9 @@
 // Tests of the image chip and of a pair of them.
 use crate::any_chip::{EDGES, ROWS};
+use crate::chip_calls::Call;
 use crate::chip_cases::try_chip;
 use crate::chip_fuses::FUSES;
-use crate::pair_cases::{try_both, try_joined, try_pair, try_row};
+use crate::pair_cases::{try_both, try_joined, try_pair};
 use crate::pair_tables::{POWER_FAILURES, SEAMS};
 use std::test::Fail;
 
@@ -16,7 +17,8 @@ fn refusals_at_their_edges(rt: HostRuntime) {
 #[test]
 fn each_state_under_each_call_and_fate(rt: HostRuntime) {
     for (row, trial) in ROWS.iter().enumerate() {
-        try_row(&rt, row, trial);
+        let steps = trial.steps(Call::PowerOn);
+        try_both(&rt, row, &trial.case(&steps));
     }
 }
 

@@ -1,5 +1,6 @@
 // Tests of the image disk.
-use crate::disk_cases::{try_disk, try_disk_row};
+use crate::disk_calls::DiskCall;
+use crate::disk_cases::try_disk;
 use crate::disk_tables::{DISK_CASES, DISK_ROWS};
 
 #[test]
@@ -12,6 +13,7 @@ fn refusals_at_their_edges_and_fuses(rt: HostRuntime) {
 #[test]
 fn each_state_under_each_call_and_fate(rt: HostRuntime) {
     for (row, trial) in DISK_ROWS.iter().enumerate() {
-        try_disk_row(&rt, row, trial);
+        let steps = trial.steps(DiskCall::PowerOn);
+        try_disk(&rt, row, &trial.case(&steps));
     }
 }

@@ -1,7 +1,7 @@
 // Images that make a device, and images that do not.
 use self::Kind::{OfChip, OfDisk};
+use crate::calls::Answer;
 use crate::calls::Answer::{Counted, Refused};
-use crate::calls::{Answer, refused};
 use device::{Chip, Disk};
 use image::{ImageChip, ImageDisk};
 use std::alloc::Global;
@@ -97,8 +97,8 @@ const IMAGES: &[Image] = &[
 // Sets some bytes of an image.
 fn set_bytes(image: &mut [u8], bytes: &[(usize, u8)]) {
     for (at, byte) in bytes {
-        if *at < image.len() {
-            image[*at] = *byte;
+        if let Some(place) = image.get_mut(*at) {
+            *place = *byte;
         }
     }
 }
@@ -108,11 +108,11 @@ fn made<'a>(kind: Kind, image: &'a mut [u8], fuses: &'a [u32]) -> Answer {
     match kind {
         OfChip => match ImageChip::new(image, fuses) {
             Ok(chip) => Counted(chip.blocks()),
-            Err(unfit) => refused(unfit.fault),
+            Err(unfit) => unfit.fault.into(),
         },
         OfDisk => match ImageDisk::new(image, fuses) {
             Ok(disk) => Counted(disk.blocks()),
-            Err(unfit) => refused(unfit.fault),
+            Err(unfit) => unfit.fault.into(),
         },
     }
 }

@@ -8,6 +8,10 @@ mod bytes;
 #[cfg(test)]
 mod calls;
 #[cfg(test)]
+mod cases;
+#[cfg(test)]
+mod chip_calls;
+#[cfg(test)]
 mod chip_cases;
 #[cfg(test)]
 mod chip_fuses;

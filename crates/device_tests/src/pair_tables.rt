@@ -1,9 +1,10 @@
 // Tables of a pair: where its two chips meet, how many erase blocks it may have, and power failing in either chip.
 use crate::calls::Answer::{Counted, Done, Found, Refused};
-use crate::calls::Call::{Blocks, Erase, PowerOn, Program, Read, Sync};
 use crate::calls::Step;
-use crate::chip_cases::{Case, Frame};
-use crate::pair_cases::Joined;
+use crate::cases::Case;
+use crate::chip_calls::Call::{Blocks, Erase, PowerOn, Program, Read, Sync};
+use crate::chip_cases::Frame;
+use crate::pair_cases::{Joined, PairCase};
 
 // Up to 64 erase blocks; places run on where the chips meet.
 pub(super) const SEAMS: &[Joined] = &[
@@ -100,141 +101,159 @@ pub(super) const SEAMS: &[Joined] = &[
 ];
 
 // Power failing in a program, an erase or a sync of either chip: the pair is off as a whole, and names its own place.
-pub(super) const POWER_FAILURES: &[Case<'static>] = &[
-    Case {
-        fuses: &[0],
-        others: &[],
-        before: &[],
-        steps: &[
-            Step(PowerOn, Done),
-            Step(Program(8, 512, 2), Done),
-            Step(Program(7, 512, 1), Refused(1, 1, 7)),
-            Step(Read(8, 512), Refused(1, 1, 8)),
-            Step(Program(9, 512, 2), Refused(1, 1, 9)),
-            Step(Erase(1), Refused(1, 1, 1)),
-            Step(Blocks, Counted(2)),
-        ],
-        after: &[Frame(8, 3, 0, 2)],
-    },
-    Case {
-        fuses: &[],
-        others: &[0],
-        before: &[],
-        steps: &[
-            Step(PowerOn, Done),
-            Step(Program(7, 512, 1), Done),
-            Step(Program(8, 512, 2), Refused(1, 1, 8)),
-            Step(Read(7, 512), Refused(1, 1, 7)),
-            Step(Program(6, 512, 1), Refused(1, 1, 6)),
-            Step(Sync, Refused(1, 1, 0)),
-        ],
-        after: &[Frame(7, 3, 0, 1)],
-    },
-    Case {
-        fuses: &[0],
-        others: &[],
-        before: &[Frame(7, 1, 0, 3), Frame(8, 1, 0, 4)],
-        steps: &[
-            Step(PowerOn, Done),
-            Step(Erase(1), Done),
-            Step(Erase(0), Refused(1, 1, 0)),
-            Step(Erase(1), Refused(1, 1, 1)),
-        ],
-        after: &[Frame(8, 4, 0, 4)],
-    },
-    Case {
-        fuses: &[],
-        others: &[0],
-        before: &[Frame(7, 1, 0, 3), Frame(8, 1, 0, 4)],
-        steps: &[
-            Step(PowerOn, Done),
-            Step(Erase(0), Done),
-            Step(Erase(1), Refused(1, 1, 1)),
-            Step(Erase(0), Refused(1, 1, 0)),
-        ],
-        after: &[Frame(7, 4, 0, 3)],
-    },
+pub(super) const POWER_FAILURES: &[PairCase<'static>] = &[
+    PairCase(
+        &[],
+        Case {
+            fuses: &[0],
+            before: &[],
+            steps: &[
+                Step(PowerOn, Done),
+                Step(Program(8, 512, 2), Done),
+                Step(Program(7, 512, 1), Refused(1, 1, 7)),
+                Step(Read(8, 512), Refused(1, 1, 8)),
+                Step(Program(9, 512, 2), Refused(1, 1, 9)),
+                Step(Erase(1), Refused(1, 1, 1)),
+                Step(Blocks, Counted(2)),
+            ],
+            after: &[Frame(8, 3, 0, 2)],
+        },
+    ),
+    PairCase(
+        &[0],
+        Case {
+            fuses: &[],
+            before: &[],
+            steps: &[
+                Step(PowerOn, Done),
+                Step(Program(7, 512, 1), Done),
+                Step(Program(8, 512, 2), Refused(1, 1, 8)),
+                Step(Read(7, 512), Refused(1, 1, 7)),
+                Step(Program(6, 512, 1), Refused(1, 1, 6)),
+                Step(Sync, Refused(1, 1, 0)),
+            ],
+            after: &[Frame(7, 3, 0, 1)],
+        },
+    ),
+    PairCase(
+        &[],
+        Case {
+            fuses: &[0],
+            before: &[Frame(7, 1, 0, 3), Frame(8, 1, 0, 4)],
+            steps: &[
+                Step(PowerOn, Done),
+                Step(Erase(1), Done),
+                Step(Erase(0), Refused(1, 1, 0)),
+                Step(Erase(1), Refused(1, 1, 1)),
+            ],
+            after: &[Frame(8, 4, 0, 4)],
+        },
+    ),
+    PairCase(
+        &[0],
+        Case {
+            fuses: &[],
+            before: &[Frame(7, 1, 0, 3), Frame(8, 1, 0, 4)],
+            steps: &[
+                Step(PowerOn, Done),
+                Step(Erase(0), Done),
+                Step(Erase(1), Refused(1, 1, 1)),
+                Step(Erase(0), Refused(1, 1, 0)),
+            ],
+            after: &[Frame(7, 4, 0, 3)],
+        },
+    ),
     // with the second chip's fuse spent, what would be refused is refused for its own reason
-    Case {
-        fuses: &[],
-        others: &[0],
-        before: &[Frame(8, 1, 0, 3)],
-        steps: &[
-            Step(PowerOn, Done),
-            Step(Program(8, 512, 2), Refused(5, 1, 8)),
-            Step(Program(15, 511, 2), Refused(2, 1, 15)),
-            Step(Program(16, 512, 2), Refused(3, 1, 16)),
-            Step(Erase(2), Refused(3, 1, 2)),
-            Step(Read(8, 512), Found(3)),
-            Step(Read(15, 512), Refused(7, 1, 15)),
-            Step(Program(15, 512, 2), Refused(1, 1, 15)),
-        ],
-        after: &[],
-    },
+    PairCase(
+        &[0],
+        Case {
+            fuses: &[],
+            before: &[Frame(8, 1, 0, 3)],
+            steps: &[
+                Step(PowerOn, Done),
+                Step(Program(8, 512, 2), Refused(5, 1, 8)),
+                Step(Program(15, 511, 2), Refused(2, 1, 15)),
+                Step(Program(16, 512, 2), Refused(3, 1, 16)),
+                Step(Erase(2), Refused(3, 1, 2)),
+                Step(Read(8, 512), Found(3)),
+                Step(Read(15, 512), Refused(7, 1, 15)),
+                Step(Program(15, 512, 2), Refused(1, 1, 15)),
+            ],
+            after: &[],
+        },
+    ),
     // a sync, in the first chip: the second is not reached
-    Case {
-        fuses: &[1],
-        others: &[],
-        before: &[],
-        steps: &[
-            Step(PowerOn, Done),
-            Step(Program(7, 512, 1), Done),
-            Step(Program(8, 512, 2), Done),
-            Step(Sync, Refused(1, 1, 0)),
-            Step(Sync, Refused(1, 1, 0)),
-        ],
-        after: &[Frame(7, 3, 0, 1), Frame(8, 3, 0, 2)],
-    },
+    PairCase(
+        &[],
+        Case {
+            fuses: &[1],
+            before: &[],
+            steps: &[
+                Step(PowerOn, Done),
+                Step(Program(7, 512, 1), Done),
+                Step(Program(8, 512, 2), Done),
+                Step(Sync, Refused(1, 1, 0)),
+                Step(Sync, Refused(1, 1, 0)),
+            ],
+            after: &[Frame(7, 3, 0, 1), Frame(8, 3, 0, 2)],
+        },
+    ),
     // a sync, in the second chip: the first has settled its pages
-    Case {
-        fuses: &[],
-        others: &[1],
-        before: &[],
-        steps: &[
-            Step(PowerOn, Done),
-            Step(Program(7, 512, 1), Done),
-            Step(Program(8, 512, 2), Done),
-            Step(Sync, Refused(1, 1, 0)),
-            Step(Read(7, 512), Refused(1, 1, 7)),
-        ],
-        after: &[Frame(7, 1, 0, 1), Frame(8, 3, 0, 2)],
-    },
+    PairCase(
+        &[1],
+        Case {
+            fuses: &[],
+            before: &[],
+            steps: &[
+                Step(PowerOn, Done),
+                Step(Program(7, 512, 1), Done),
+                Step(Program(8, 512, 2), Done),
+                Step(Sync, Refused(1, 1, 0)),
+                Step(Read(7, 512), Refused(1, 1, 7)),
+            ],
+            after: &[Frame(7, 1, 0, 1), Frame(8, 3, 0, 2)],
+        },
+    ),
     // the next power-on cuts the power of both
-    Case {
-        fuses: &[],
-        others: &[0],
-        before: &[Frame(6, 0, 1, 9), Frame(7, 0, 2, 9), Frame(8, 0, 1, 9)],
-        steps: &[
-            Step(PowerOn, Done),
-            Step(Program(6, 512, 1), Done),
-            Step(Program(7, 512, 1), Done),
-            Step(Program(8, 512, 2), Refused(1, 1, 8)),
-            Step(PowerOn, Done),
-            Step(Read(6, 512), Found(1)),
-            Step(Read(7, 512), Refused(6, 1, 7)),
-            Step(Read(8, 512), Refused(7, 1, 8)),
-            Step(Program(8, 512, 2), Done),
-            Step(Sync, Done),
-        ],
-        after: &[Frame(6, 1, 1, 1), Frame(7, 2, 2, 1), Frame(8, 1, 1, 2)],
-    },
+    PairCase(
+        &[0],
+        Case {
+            fuses: &[],
+            before: &[Frame(6, 0, 1, 9), Frame(7, 0, 2, 9), Frame(8, 0, 1, 9)],
+            steps: &[
+                Step(PowerOn, Done),
+                Step(Program(6, 512, 1), Done),
+                Step(Program(7, 512, 1), Done),
+                Step(Program(8, 512, 2), Refused(1, 1, 8)),
+                Step(PowerOn, Done),
+                Step(Read(6, 512), Found(1)),
+                Step(Read(7, 512), Refused(6, 1, 7)),
+                Step(Read(8, 512), Refused(7, 1, 8)),
+                Step(Program(8, 512, 2), Done),
+                Step(Sync, Done),
+            ],
+            after: &[Frame(6, 1, 1, 1), Frame(7, 2, 2, 1), Frame(8, 1, 1, 2)],
+        },
+    ),
     // a sync counts in both chips, a program only in its own; each chip takes its own next fuse
-    Case {
-        fuses: &[1, 1],
-        others: &[2, 0],
-        before: &[],
-        steps: &[
-            Step(PowerOn, Done),
-            Step(Sync, Done),
-            Step(Program(8, 512, 2), Done),
-            Step(Program(7, 512, 1), Refused(1, 1, 7)),
-            Step(PowerOn, Done),
-            Step(Program(7, 512, 1), Done),
-            Step(Program(9, 512, 2), Refused(1, 1, 9)),
-            Step(PowerOn, Done),
-            Step(Sync, Done),
-            Step(Sync, Done),
-        ],
-        after: &[Frame(7, 0, 0, 1), Frame(8, 0, 0, 2)],
-    },
+    PairCase(
+        &[2, 0],
+        Case {
+            fuses: &[1, 1],
+            before: &[],
+            steps: &[
+                Step(PowerOn, Done),
+                Step(Sync, Done),
+                Step(Program(8, 512, 2), Done),
+                Step(Program(7, 512, 1), Refused(1, 1, 7)),
+                Step(PowerOn, Done),
+                Step(Program(7, 512, 1), Done),
+                Step(Program(9, 512, 2), Refused(1, 1, 9)),
+                Step(PowerOn, Done),
+                Step(Sync, Done),
+                Step(Sync, Done),
+            ],
+            after: &[Frame(7, 0, 0, 1), Frame(8, 0, 0, 2)],
+        },
+    ),
 ];

@@ -58,6 +58,11 @@ module _ (xs : List ℕ) (b : ℕ) (inside : b < blocks_in xs) where
       let t : eqb (get_or xs (1026 * b) 0) 1 ≡ false = sym unsettled_by_state ∙ sym h in
       sym (reads_by_state ∙ rw t)
 
+  pub reads_new : true ≡ is_unsettled (block_in xs b) → new_at xs (1026 * b) ≡ reads (block_in xs b)
+  reads_new h =
+      let t : eqb (get_or xs (1026 * b) 0) 1 ≡ true = sym unsettled_by_state ∙ sym h in
+      sym (reads_by_state ∙ rw t)
+
 -- A write changes its own block only.
 module _ (on : Bool) (xs ys bytes : List ℕ) (b : ℕ) (inside : b < blocks_in xs) (still : is_unsettled (block_in xs b) ≡ false) (len : length ys ≡ length xs) (change : ChangesOne (written_frame bytes) b xs ys) where
   pub written_blocks : (q : ℕ) → block_in ys q ≡ written (image_blocks on xs) b bytes q

@@ -60,10 +60,6 @@ module _ (xs : List ℕ) (i : ℕ) (inside : i + 1026 ≤ length xs) where
   abbrev pub Outside : List ℕ → Type 0
   Outside ys = (n : ℕ) → (n < i) ⊎ (i + 1026 ≤ n) → get_or ys n 0 ≡ get_or xs n 0
 
-  pub state_outside : (s : ℕ) → Outside (set xs i s)
-  state_outside s n (inl h) = get_or-set_other xs i n s 0 (omega arith)
-  state_outside s n (inr h) = get_or-set_other xs i n s 0 (omega arith)
-
   pub state_frame : (s : ℕ) → frame_at (set xs i s) i ≡ with_state s (frame_at xs i)
   state_frame s =
       same_parts (frame_at (set xs i s) i) (with_state s (frame_at xs i))
@@ -79,10 +75,6 @@ module _ (xs : List ℕ) (i : ℕ) (inside : i + 1026 ≤ length xs) where
 
     new_below : (n : ℕ) → n < i + 514 → get_or (put_mid (i + 514) k xs bytes) n 0 ≡ get_or xs n 0
     new_below n h = mid_below (i + 514) k xs bytes (omega arith) (omega arith) n h
-
-    pub new_outside : Outside (put_mid (i + 514) k xs bytes)
-    new_outside n (inl h) = new_below n (omega arith)
-    new_outside n (inr h) = mid_above (i + 514) k xs bytes (omega arith) (omega arith) n (omega arith)
 
     new_is : new_at (put_mid (i + 514) k xs bytes) i ≡ bytes
     unfolding new_at

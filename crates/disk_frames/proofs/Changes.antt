@@ -1,10 +1,8 @@
 -- A write to one frame, by what the frame becomes.
-use Rattle.std.proofs.Common.{◌≡◌, ℕ, ◌+◌, ◌-◌, ◌*◌, ◌<◌, ◌≤◌, cond, eqb, ◌⊎◌, List, length, get_or, set, inl, inr, arith}
-use borrow.Rule.Slice.PartMut.{put_mid}
-use Rattle.std.proofs.lemmas.List.{length-set}
+use Rattle.std.proofs.Common.{◌≡◌, ℕ, ◌+◌, ◌-◌, ◌*◌, ◌<◌, ◌≤◌, cond, eqb, ◌⊎◌, List, length, get_or, inl, inr, arith}
 use Rattle.std.proofs.lemmas.Bool.{eq-eqb, ne_eqb, cases_order}
-use Rattle.disk_frames.specs.Frames.{Frame, frame_of, blocks_in, with_state, with_new, with_new_kept, ChangesOne}
-use Rattle.disk_frames.proofs.Bytes.{same_frame, state_outside, state_frame, new_length, new_outside, new_frame, kept_outside, kept_frame}
+use Rattle.disk_frames.specs.Frames.{Frame, frame_of, blocks_in, with_new_kept, ChangesOne}
+use Rattle.disk_frames.proofs.Bytes.{same_frame, kept_outside, kept_frame}
 
 -- The frame of block b is changed, and no byte outside it.
 pub one_changed : (f : Frame → Frame) (xs ys : List ℕ) (b : ℕ) → length ys ≡ length xs
@@ -17,20 +15,10 @@ one_changed f xs ys b len others e q = go (cases_order q b)
     go (inr (inl h)) = rw (ne_eqb q b (omega arith)) (same_frame xs ys len (1026 * q) (λ k l u. others k (inl (omega arith))))
     go (inr (inr h)) = rw (ne_eqb q b (omega arith)) (same_frame xs ys len (1026 * q) (λ k l u. others k (inr (omega arith))))
 
--- The three writes to a frame.
+-- The new content copied over the settled content.
 module _ (xs : List ℕ) (b : ℕ) (inside : b < blocks_in xs) where
   whole_frame : 1026 * b + 1026 ≤ length xs
   whole_frame = omega arith
-
-  pub state_set : (s : ℕ) → ChangesOne (with_state s) b xs (set xs (1026 * b) s)
-  state_set s =
-      one_changed (with_state s) xs (set xs (1026 * b) s) b (length-set xs (1026 * b) s) (state_outside xs (1026 * b) whole_frame s)
-      (state_frame xs (1026 * b) whole_frame s)
-
-  pub new_set : (bytes : List ℕ) (k : ℕ) → k ≡ 512 → length bytes ≡ 512 → ChangesOne (with_new bytes) b xs (put_mid (1026 * b + 514) k xs bytes)
-  new_set bytes k size whole =
-      one_changed (with_new bytes) xs (put_mid (1026 * b + 514) k xs bytes) b (new_length xs (1026 * b) whole_frame bytes k size whole)
-      (new_outside xs (1026 * b) whole_frame bytes k size whole) (new_frame xs (1026 * b) whole_frame bytes k size whole)
 
   -- n bytes are copied
   pub new_kept : (ys : List ℕ) (n : ℕ) → n ≡ 512 → length ys ≡ length xs

@@ -1,3 +1,4 @@
 pub mod Bytes
 pub mod Changes
+pub mod Parts
 pub mod Blockwise

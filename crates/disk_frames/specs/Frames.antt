@@ -63,6 +63,10 @@ written_frame bytes f = record { state = 1; fate = f.fate; settled_content = f.s
 abbrev pub settled_with : List ℕ → Frame → Frame
 settled_with bytes f = record { state = 0; fate = f.fate; settled_content = bytes; new_content = f.new_content }
 
+-- a frame once its block is settled, with its new content or with its settled content
+abbrev pub settled_as : Bool → Frame → Frame
+settled_as new f = cond (f.state == 1) (settled_with (cond new f.new_content f.settled_content) f) f
+
 -- a frame once its block is settled as it reads
 abbrev pub settled_frame : Frame → Frame
 settled_frame f = cond (f.state == 1) (settled_with f.new_content f) f

@@ -1,19 +1,29 @@
 // The bytes of a disk image: a frame of 1,026 bytes for each block, with its state, its fate, its settled content and its new content.
 #![tactic(auto)]
 
-ghost use Rattle.std.specs.Prelude.{◌≡◌, ℕ, ◌<◌, ◌≤◌, length, MatchOption, ◌==◌};
+ghost use Rattle.std.specs.Prelude.{◌≡◌, ℕ, ◌/◌, ◌<◌, ◌≤◌, Bool, length, MatchOption, ◌==◌};
+ghost use Rattle.std.specs.Simd.{first_chunks};
 ghost use Rattle.device.specs.Cells.{reads, is_unsettled};
 ghost use Rattle.device.specs.Cells.Cell.{settled};
-ghost use Rattle.disk_frames.specs.Frames.{blocks_in, block_in, frame_of, with_state, with_new, with_new_kept, written_frame, settled_frame, cut_frame, cut_block, ChangesOne, ChangesAll, Listed, FirstBad};
+ghost use Rattle.disk_frames.specs.Frames.{blocks_in, block_in, frame_at, frame_of, written_frame, settled_frame, settled_as, cut_frame, cut_block, ChangesOne, ChangesAll, Listed, FirstBad};
 
 // The bytes of a frame.
 pub const FRAME: usize = 1026;
 
-// Where in a frame its settled content begins.
+// Where in a frame its fate stands, and where its two contents begin. The state stands first.
+const FATE: usize = 1;
+
 const SETTLED: usize = 2;
 
-// Where in a frame its new content begins.
 const NEW: usize = 514;
+
+// The two states. An enum would be no plainer: a state is only ever compared with one of them, and no call matches on both.
+const IS_SETTLED: u8 = 0;
+
+const IS_UNSETTLED: u8 = 1;
+
+// The fate by which a power cut keeps the new content. By any other the settled content stays.
+const KEEPS_NEW: u8 = 1;
 
 // The blocks in an image.
 pub fn blocks_in(image: &[u8]) -> usize
@@ -22,17 +32,24 @@ pub fn blocks_in(image: &[u8]) -> usize
     image.len() / FRAME
 }
 
+// The frames of an image, one for each block.
+fn frames_of(image: &[u8]) -> &[[u8; FRAME]]
+    ensures frames { result.now ≡ first_chunks 1026 (blocks_in image.now) image.now }
+    ensures count { length result.now ≡ blocks_in image.now }
+{
+    let (frames, _) = image.as_chunks();
+    frames
+}
+
 // The first block whose state is neither settled nor unsettled.
 pub fn first_bad(image: &[u8]) -> Option<u32>
     requires { blocks_in image.now ≤ 65536 }
     ensures { MatchOption result (Listed image.now (blocks_in image.now)) (FirstBad image.now) }
 {
-    for b in 0..blocks_in(image) {
-        if image[FRAME * b] > 1 {
-            return Some(b as u32);
-        }
-    }
-    None
+    let b = frames_of(image)
+        .iter()
+        .position(|frame| frame[0] > IS_UNSETTLED)?;
+    Some(b as u32)
 }
 
 // Whether a block is unsettled.
@@ -41,27 +58,7 @@ pub fn is_unsettled(image: &[u8], block: usize) -> bool
     ensures state { result ≡ ((frame_of image.now block).state == 1) }
     ensures block { result ≡ is_unsettled (block_in image.now block) }
 {
-    image[FRAME * block] == 1
-}
-
-// Copies the settled content of a block into a buffer.
-fn copy_settled(image: &[u8], block: usize, buf: &mut [u8])
-    requires inside { block < blocks_in image.now }
-    requires whole { length buf.old ≡ 512 }
-    ensures { buf.new ≡ (frame_of image.now block).settled_content }
-{
-    let i = FRAME * block;
-    buf.copy_from_slice(&image[i + SETTLED..i + NEW]);
-}
-
-// Copies the new content of a block into a buffer.
-fn copy_new(image: &[u8], block: usize, buf: &mut [u8])
-    requires inside { block < blocks_in image.now }
-    requires whole { length buf.old ≡ 512 }
-    ensures { buf.new ≡ (frame_of image.now block).new_content }
-{
-    let i = FRAME * block;
-    buf.copy_from_slice(&image[i + NEW..i + FRAME]);
+    frames_of(image)[block][0] == IS_UNSETTLED
 }
 
 // Copies what a block reads into a buffer.
@@ -70,38 +67,12 @@ pub fn copy_block(image: &[u8], block: usize, buf: &mut [u8])
     requires whole { length buf.old ≡ 512 }
     ensures { buf.new ≡ reads (block_in image.now block) }
 {
+    let frame = &frames_of(image)[block];
     if is_unsettled(image, block) {
-        copy_new(image, block, buf);
+        buf.copy_from_slice(&frame[NEW..]);
     } else {
-        copy_settled(image, block, buf);
+        buf.copy_from_slice(&frame[SETTLED..NEW]);
     }
-}
-
-// Sets the state of a block.
-fn set_state(image: &mut [u8], block: usize, state: u8)
-    requires { block < blocks_in image.old }
-    ensures { ChangesOne (with_state state) block image.old image.new }
-{
-    image[FRAME * block] = state;
-}
-
-// Sets the new content of a block.
-fn set_new(image: &mut [u8], block: usize, bytes: &[u8])
-    requires inside { block < blocks_in image.old }
-    requires whole { length bytes.now ≡ 512 }
-    ensures { ChangesOne (with_new bytes.now) block image.old image.new }
-{
-    let i = FRAME * block;
-    image[i + NEW..i + FRAME].copy_from_slice(bytes);
-}
-
-// Copies the new content of a block over its settled content.
-fn keep_new(image: &mut [u8], block: usize)
-    requires { block < blocks_in image.old }
-    ensures { ChangesOne with_new_kept block image.old image.new }
-{
-    let i = FRAME * block;
-    image.copy_within(i + NEW..i + FRAME, i + SETTLED);
 }
 
 // Writes a block: the bytes are its new content, and it is unsettled.
@@ -110,30 +81,36 @@ pub fn write_block(image: &mut [u8], block: usize, bytes: &[u8])
     requires whole { length bytes.now ≡ 512 }
     ensures { ChangesOne (written_frame bytes.now) block image.old image.new }
 {
-    set_new(image, block, bytes);
-    set_state(image, block, 1);
+    let i = FRAME * block;
+    let frame = &mut image[i..i + FRAME];
+    frame[NEW..].copy_from_slice(bytes);
+    frame[0] = IS_UNSETTLED;
 }
 
-// Settles a block as it reads.
-fn settle_frame(image: &mut [u8], block: usize)
-    requires { block < blocks_in image.old }
-    ensures { ChangesOne settled_frame block image.old image.new }
+// Settles a frame, if it is unsettled, with its new content or with its settled content.
+fn settle_frame(frame: &mut [u8], with_new: bool)
+    requires { length frame.old ≡ 1026 }
+    ensures { frame_at frame.new 0 ≡ settled_as with_new (frame_at frame.old 0) }
 {
-    if is_unsettled(image, block) {
-        keep_new(image, block);
-        set_state(image, block, 0);
+    if frame[0] == IS_UNSETTLED {
+        if with_new {
+            frame.copy_within(NEW.., SETTLED);
+        }
+        frame[0] = IS_SETTLED;
     }
 }
 
-// Settles a block as a power cut leaves it, by its fate.
-fn cut_frame(image: &mut [u8], block: usize)
-    requires { block < blocks_in image.old }
-    ensures { ChangesOne cut_frame block image.old image.new }
+// Settles every block, with its new content if its fate says so.
+fn settle_where<F: Fn(u8) -> bool>(image: &mut [u8], with_new: F)
+    requires { F.IsAlwaysCallable with_new }
+    ensures inside { (q : ℕ) → q < blocks_in image.old → (new : Bool) × F.post with_new (frame_of image.old q).fate new × (frame_of image.new q ≡ settled_as new (frame_of image.old q)) }
+    ensures beyond { (q : ℕ) → blocks_in image.old ≤ q → frame_of image.new q ≡ frame_of image.old q }
 {
-    if image[FRAME * block + 1] == 1 {
-        settle_frame(image, block);
-    } else if is_unsettled(image, block) {
-        set_state(image, block, 0);
+    // Tried, the proof did not close: `chunks_exact_mut`, since the library does not say what the slice holds afterwards.
+    for b in 0..blocks_in(image) {
+        let i = FRAME * b;
+        let new = with_new(image[i + FATE]);
+        settle_frame(&mut image[i..i + FRAME], new);
     }
 }
 
@@ -142,9 +119,7 @@ pub fn settle_blocks(image: &mut [u8])
     ensures frames { ChangesAll settled_frame image.old image.new }
     ensures blocks { (q : ℕ) → block_in image.new q ≡ settled (reads (block_in image.old q)) }
 {
-    for b in 0..blocks_in(image) {
-        settle_frame(image, b);
-    }
+    settle_where(image, |_| true);
 }
 
 // Settles every block as a power cut leaves it, by its fate.
@@ -152,7 +127,5 @@ pub fn cut_blocks(image: &mut [u8])
     ensures frames { ChangesAll cut_frame image.old image.new }
     ensures blocks { (q : ℕ) → block_in image.new q ≡ cut_block (frame_of image.old q).fate (block_in image.old q) }
 {
-    for b in 0..blocks_in(image) {
-        cut_frame(image, b);
-    }
+    settle_where(image, |fate| fate == KEEPS_NEW);
 }

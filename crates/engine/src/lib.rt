@@ -2,11 +2,8 @@
 #![tactic(auto)]
 
 mod marking;
-mod powering;
+mod memory;
 mod reading;
 mod writing;
 
-pub use marking::{clean, evict, flush};
-pub use powering::{Memory, begin, wake};
-pub use reading::fetch;
-pub use writing::write;
+pub use memory::Memory;

@@ -6,13 +6,12 @@ use Rattle.layout.specs.Geometry.{data_pages}
 use Rattle.table.specs.Tables.{empty_table, held}
 use Rattle.recovery.specs.Looking.{shown}
 use Rattle.journal.specs.Notes.{Noted, noted, pages_of, formed}
-use Rattle.engine.specs.declared.powering.Memory.{Memory}
+use Rattle.engine.specs.declared.memory.Memory.{Memory}
 use Rattle.engine.specs.Works.{Holding, Begun}
-use Rattle.cache.specs.declared.bare.BareCache.{BareCache}
-use Rattle.cache.specs.declared.working.Cache.{Cache}
-use Rattle.cache.specs.Caches.{Sound, ReadyToOpen, Opens}
+use Rattle.cache.specs.Views.{Working, Bare, ReadyToOpen}
+use Rattle.cache.specs.Caches.{Opens}
 use Rattle.history.specs.declared.calls.Call.{Call}
-use Rattle.history.specs.declared.calls.Answer.{Answer}
+use Rattle.history.specs.Answers.{Answer}
 use Rattle.history.specs.Histories.{Phase, Moves, Runs, at_first}
 use Rattle.history.specs.Histories.Phase.{on}
 use Rattle.history.specs.Serving.{Serves}
@@ -28,15 +27,15 @@ runs_push p (b ∷ cs) [] q c x r h _ = absurd h
 runs_push p (b ∷ cs) (y ∷ xs) q c x r (next, first, rest) h = (next, first, runs_push next cs xs q c x r rest h)
 
 -- the calls so far led to a phase that the cache follows
-abbrev pub Reached : {C : Type 0} → (C → Pages) → List Call → List Answer → Cache C → Type 0
+abbrev pub Reached : {C : Type 0} → (C → Pages) → List Call → List Answer → Working C → Type 0
 Reached meaning cs xs c = (p : Phase) × Runs (on at_first) cs xs p × Follows meaning p c
 
 -- one more call was served: the cache follows where it leads
-pub reached_more : {C : Type 0} (meaning : C → Pages) (sound : C → Type 0) (cs : List Call) (i : ℕ) (xs xs' : List Answer) (c d : Cache C) (call : Call) (x : Answer)
-    → i < length cs → call ≡ get_or cs i call → xs' ≡ xs ++ (x ∷ []) → Sound meaning sound c → Sound meaning sound d → d.journal.geometry ≡ c.journal.geometry
+pub reached_more : {C : Type 0} (meaning : C → Pages) (cs : List Call) (i : ℕ) (xs xs' : List Answer) (c d : Working C) (call : Call) (x : Answer)
+    → i < length cs → call ≡ get_or cs i call → xs' ≡ xs ++ (x ∷ []) → d.journal.geometry ≡ c.journal.geometry
     → Serves meaning c call x d → Reached meaning (take i cs) xs c → Reached meaning (take (i + 1) cs) xs' d
-reached_more meaning sound cs i xs xs' c d call x within read pushed s s' size h (p, ran, follows) =
-    let (next, moved, follows') = moves meaning sound p c d call x s s' size follows h in
+reached_more meaning cs i xs xs' c d call x within read pushed size h (p, ran, follows) =
+    let (next, moved, follows') = moves meaning p c d call x size follows h in
     let longer : take (i + 1) cs ≡ take i cs ++ (call ∷ []) = take_more cs i call within ∙ ap (λ y. take i cs ++ (y ∷ [])) (sym read) in
     (next, rw (longer, pushed) (runs_push (on at_first) (take i cs) xs p call x next ran moved), follows')
 
@@ -50,7 +49,7 @@ absent_all : (D : ℕ) (v : Noted) (pages : ℕ → State) → v ≡ formed D �
 absent_all D v pages e a = ap (λ w. held w.table a) e ∙ none_held D a
 
 -- a cache that opens on a formed chip follows the history in which every address is absent
-pub follows_at_first : {C : Type 0} (meaning : C → Pages) (m : Pages) (b : BareCache C) (w : Memory) (c : Cache C) → ReadyToOpen meaning b w
+pub follows_at_first : {C : Type 0} (meaning : C → Pages) (m : Pages) (b : Bare C) (w : Memory) (c : Working C) → ReadyToOpen (meaning b.chip) w
     → Begun (data_pages m.size) m (meaning b.chip) w.journal w.space → Opens meaning b w c → FollowsOn meaning at_first c
 follows_at_first meaning m b w c ready begun opens =
     let pages = shown (meaning c.chip) in

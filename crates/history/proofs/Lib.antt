@@ -6,7 +6,7 @@ pub mod Outcomes
 pub mod Phasing
 pub mod Remarked
 pub mod Rereading
-pub mod Served
+pub mod Answering
 pub mod Sitting
 pub mod Waked
 pub mod Wrote

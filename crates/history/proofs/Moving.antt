@@ -1,11 +1,10 @@
 -- One call moves a history on as its answer says, and the cache follows.
 use Rattle.std.proofs.Common.{◌≡◌}
 use Rattle.device.specs.Chips.{Pages}
-use Rattle.cache.specs.declared.working.Cache.{Cache}
-use Rattle.cache.specs.Caches.{Sound}
+use Rattle.cache.specs.Views.{Working}
 use Rattle.history.specs.declared.calls.Call.{Call}
 use Rattle.history.specs.declared.calls.Call.TheVariants.{WriteDirty, WriteClean, Read, Evict, Clean, Exists, Sync, PowerOn}
-use Rattle.history.specs.declared.calls.Answer.{Answer}
+use Rattle.history.specs.Answers.{Answer}
 use Rattle.history.specs.Histories.{History, Phase, Moves}
 use Rattle.history.specs.Histories.Phase.{on, off}
 use Rattle.history.specs.Serving.{Serves}
@@ -17,7 +16,7 @@ use Rattle.history.proofs.Rereading.{on_read}
 use Rattle.history.proofs.Remarked.{on_evict, on_clean, on_exists, on_sync}
 use Rattle.history.proofs.Wrote.{wrote_dirty, wrote_clean}
 
-module _ {C : Type 0} (meaning : C → Pages) (c d : Cache C) (size : d.journal.geometry ≡ c.journal.geometry) where
+module _ {C : Type 0} (meaning : C → Pages) (c d : Working C) (size : d.journal.geometry ≡ c.journal.geometry) where
   on_moves : (h : History) (call : Call) (x : Answer) → FollowsOn meaning h c → Serves meaning c call x d → Next meaning (on h) call x d
   on_moves h (WriteDirty a bytes) x f r = wrote_dirty meaning (on h) c d a bytes x size f r
   on_moves h (WriteClean a bytes) x f r = wrote_clean meaning (on h) c d a bytes x size f r
@@ -38,7 +37,7 @@ module _ {C : Type 0} (meaning : C → Pages) (c d : Cache C) (size : d.journal.
   off_moves h h' Sync x f r = off_next meaning h h' c f Sync x d (λ e. e) r
   off_moves h h' PowerOn x f r = off_waked meaning c d size h h' f x r
 
-pub moves : {C : Type 0} (meaning : C → Pages) (sound : C → Type 0) (p : Phase) (c d : Cache C) (call : Call) (x : Answer) → Sound meaning sound c → Sound meaning sound d
+pub moves : {C : Type 0} (meaning : C → Pages) (p : Phase) (c d : Working C) (call : Call) (x : Answer)
     → d.journal.geometry ≡ c.journal.geometry → Follows meaning p c → Serves meaning c call x d → (next : Phase) × Moves p call x next × Follows meaning next d
-moves meaning sound (on h) c d call x s s' size f r = on_moves meaning c d size h call x f r
-moves meaning sound (off h h') c d call x s s' size f r = off_moves meaning c d size h h' call x f r
+moves meaning (on h) c d call x size f r = on_moves meaning c d size h call x f r
+moves meaning (off h h') c d call x size f r = off_moves meaning c d size h h' call x f r

@@ -8,10 +8,10 @@ use Rattle.recovery.specs.Looking.{shown, Lost}
 use Rattle.journal.specs.Notes.{pages_of}
 use Rattle.engine.specs.Works.{Holding}
 use Rattle.cache.specs.Refusals.{off_by}
-use Rattle.cache.specs.declared.working.Cache.{Cache}
+use Rattle.cache.specs.Views.{Working}
 use Rattle.cache.specs.Caches.{chip_of, view_of}
 use Rattle.history.specs.declared.calls.Call.{Call}
-use Rattle.history.specs.declared.calls.Answer.{Answer}
+use Rattle.history.specs.Answers.{Answer}
 use Rattle.history.specs.Histories.{History, step, number_of, dark, served, Says, IsPowerOn, Moves}
 use Rattle.history.specs.Histories.Phase.{on, off}
 use Rattle.history.specs.Following.{Agrees, FollowsOn}
@@ -43,7 +43,7 @@ lost_off f m (unpowered, (p, is)) = subst (λ g. off_by g ≡ Some g) (sym is) r
 
 -- The chip, the journal and the space mean what they meant.
 
-module _ {C : Type 0} (meaning : C → Pages) (c d : Cache C) (size : d.journal.geometry ≡ c.journal.geometry) where
+module _ {C : Type 0} (meaning : C → Pages) (c d : Working C) (size : d.journal.geometry ≡ c.journal.geometry) where
   -- as many data pages
   pub same_size : pages_of d.journal ≡ pages_of c.journal
   same_size = ap (λ g. data_pages g.blocks) size

@@ -10,11 +10,11 @@ use Rattle.layout.specs.declared.entries.Mark.TheVariants.{Empty, Clean, Dirty}
 use Rattle.table.specs.Tables.{Table, held, mark_of, without, cleaned}
 use Rattle.recovery.specs.Looking.{shown}
 use Rattle.recovery.specs.Recovering.{cache_fault}
-use Rattle.cache.specs.declared.working.Cache.{Cache}
+use Rattle.cache.specs.Views.{Working}
 use Rattle.history.specs.declared.calls.Call.{Call}
 use Rattle.history.specs.declared.calls.Call.TheVariants as calls
-use Rattle.history.specs.declared.calls.Answer.{Answer}
-use Rattle.history.specs.declared.calls.Answer.TheVariants.{Done, Data, Marks, Refused}
+use Rattle.history.specs.Answers.{Answer}
+use Rattle.history.specs.declared.calls.Served.TheVariants.{Done, Data, Marks}
 use Rattle.journal.specs.Notes.{pages_of}
 use Rattle.journal.specs.Points.{Point, point, Either}
 use Rattle.space.specs.Worlds.{World, world}
@@ -72,7 +72,7 @@ exists_bright first len f e = go (leb 1 len && leb len 512) (leb (first + len) 4
     go true false e = let z : cache_fault first OutOfRange ≡ f = cc in ap (λ g. eqb (refusal_number g.refusal) 1) (sym z)
     go false c e = let z : cache_fault first BadSize ≡ f = cc in ap (λ g. eqb (refusal_number g.refusal) 1) (sym z)
 
-module _ {C : Type 0} (meaning : C → Pages) (h : History) (c d : Cache C) (size : d.journal.geometry ≡ c.journal.geometry) (k : FollowsOn meaning h c) where
+module _ {C : Type 0} (meaning : C → Pages) (h : History) (c d : Working C) (size : d.journal.geometry ≡ c.journal.geometry) (k : FollowsOn meaning h c) where
   abbrev D : ℕ
   D = pages_of c.journal
 
@@ -86,7 +86,7 @@ module _ {C : Type 0} (meaning : C → Pages) (h : History) (c d : Cache C) (siz
   when_on : (other : Option Fault) (f : Fault) → unless_off c.off other ≡ Some f → other ≡ Some f
   when_on other f e = subst (λ o. unless_off o other ≡ Some f) k.power e
 
-  unchanged : (call : Call) (f : Fault) → eqb (refusal_number f.refusal) 1 ≡ false → Says h call (Refused f) → d ≡ c → Next meaning (on h) call (Refused f) d
+  unchanged : (call : Call) (f : Fault) → eqb (refusal_number f.refusal) 1 ≡ false → Says h call (Err f) → d ≡ c → Next meaning (on h) call (Err f) d
   unchanged call f bright says e = refused meaning h call f d bright says (subst (FollowsOn meaning h) (sym e) k)
 
   -- the committed table, and the one in memory, as points
@@ -116,17 +116,17 @@ module _ {C : Type 0} (meaning : C → Pages) (h : History) (c d : Cache C) (siz
     evict_point x (inr (inr e)) = inr (agrees_at (step h (calls.Evict a)) _ _ x e (agrees_without h (view_of meaning c).table (shown (chip_of meaning c)) k.table a.0))
 
     pub on_evict : (x : Answer) → Plain (λ r. EvictCall meaning a.0 c r d) x → Next meaning (on h) (calls.Evict a) x d
-    on_evict Done (_, power, ((_, (e, _), keeps), space)) =
+    on_evict (Ok Done) (_, power, ((_, (e, _), keeps), space)) =
         let g = step h (calls.Evict a) in
         let (u, holding, is) = keeps k.committed k.holding in
         let now = agrees_turned g _ (view_of meaning d).table before after (ap (λ w. w.noted.table) e ∙ evicted_table D before a.0)
         (moved_data before after _ e (evicted_data D before a.0)) (agrees_without h (view_of meaning c).table (shown (chip_of meaning c)) k.table a.0) in
         done meaning h (calls.Evict a) d tt (follows_on meaning g c d size power u (spaced u space holding) now (subst (λ t. Agrees g t (shown (chip_of meaning d))) (sym is) now))
-    on_evict (Refused f) (inl (r, e)) = unchanged (calls.Evict a) f (held_bright (view_of meaning c).table a.0 f (when_on _ f r)) tt e
-    on_evict (Refused f) (inr (_, dark, ((fails, left), _))) =
+    on_evict (Err f) (inl (r, e)) = unchanged (calls.Evict a) f (held_bright (view_of meaning c).table a.0 f (when_on _ f r)) tt e
+    on_evict (Err f) (inr (_, dark, ((fails, left), _))) =
         failed meaning h (calls.Evict a) f c d size fails.lost dark (left_more D (chip_of meaning d) _ _ evict_point (left k.committed k.holding))
-    on_evict (Data page) r = elim r [ ]
-    on_evict (Marks page len) r = elim r [ ]
+    on_evict (Ok (Data page)) r = elim r [ ]
+    on_evict (Ok (Marks page len)) r = elim r [ ]
 
     -- Clean
 
@@ -161,7 +161,7 @@ module _ {C : Type 0} (meaning : C → Pages) (h : History) (c d : Cache C) (siz
         })
     clean_served Dirty power (work, space) = cleaned_served power work space
 
-    clean_failed : (mark : Mark) (f : Fault) → d.off ≡ off_by f → CleanWork meaning mark a.0 c (Err f) d → Next meaning (on h) (calls.Clean a) (Refused f) d
+    clean_failed : (mark : Mark) (f : Fault) → d.off ≡ off_by f → CleanWork meaning mark a.0 c (Err f) d → Next meaning (on h) (calls.Clean a) (Err f) d
     clean_failed Empty f dark r = elim r [ ]
     clean_failed Clean f dark (r, _) = absurd (never f r)
       where
@@ -171,36 +171,36 @@ module _ {C : Type 0} (meaning : C → Pages) (h : History) (c d : Cache C) (siz
         failed meaning h (calls.Clean a) f c d size fails.lost dark (left_more D (chip_of meaning d) _ _ (at_either (step h (calls.Clean a))) (left k.committed k.holding))
 
     pub on_clean : (x : Answer) → Plain (λ r. CleanCall meaning a.0 c r d) x → Next meaning (on h) (calls.Clean a) x d
-    on_clean Done (_, power, work) = done meaning h (calls.Clean a) d tt (clean_served (mark_of (view_of meaning c).table a.0) power work)
-    on_clean (Refused f) (inl (r, e)) = unchanged (calls.Clean a) f (held_bright (view_of meaning c).table a.0 f (when_on _ f r)) tt e
-    on_clean (Refused f) (inr (_, dark, work)) = clean_failed (mark_of (view_of meaning c).table a.0) f dark work
-    on_clean (Data page) r = elim r [ ]
-    on_clean (Marks page len) r = elim r [ ]
+    on_clean (Ok Done) (_, power, work) = done meaning h (calls.Clean a) d tt (clean_served (mark_of (view_of meaning c).table a.0) power work)
+    on_clean (Err f) (inl (r, e)) = unchanged (calls.Clean a) f (held_bright (view_of meaning c).table a.0 f (when_on _ f r)) tt e
+    on_clean (Err f) (inr (_, dark, work)) = clean_failed (mark_of (view_of meaning c).table a.0) f dark work
+    on_clean (Ok (Data page)) r = elim r [ ]
+    on_clean (Ok (Marks page len)) r = elim r [ ]
 
     -- Exists: the cache is only looked at
 
     pub on_exists : (len : ℕ) (x : Answer) → ExistsServes meaning a.0 len c x d → Next meaning (on h) (calls.Exists a len) x d
-    on_exists len Done r = elim r [ ]
-    on_exists len (Data page) r = elim r [ ]
-    on_exists len (Marks page n) (e, _, _) = (on h, (tt, refl), subst (FollowsOn meaning h) (sym e) k)
-    on_exists len (Refused f) (e, (buf, _, _, (r, _))) =
+    on_exists len (Ok Done) r = elim r [ ]
+    on_exists len (Ok (Data page)) r = elim r [ ]
+    on_exists len (Ok (Marks page n)) (e, _, _) = (on h, (tt, refl), subst (FollowsOn meaning h) (sym e) k)
+    on_exists len (Err f) (e, (buf, _, _, (r, _))) =
         unchanged (calls.Exists a len) f (exists_bright a.0 (length buf) f (subst (λ o. exists_refusal o a.0 (length buf) ≡ Some f) k.power r)) tt e
 
   -- Sync
 
   pub on_sync : (x : Answer) → Plain (λ r. SyncCall meaning c r d) x → Next meaning (on h) calls.Sync x d
-  on_sync Done (_, power, ((_, (e, _), keeps), space)) =
+  on_sync (Ok Done) (_, power, ((_, (e, _), keeps), space)) =
       let (u, holding, is) = keeps k.committed k.holding in
       let same : DataAs before after = moved_data before after _ e (committing_same D before).pages in
       let old : (t : Table) → t ≡ (view_of meaning c).table → Agrees h t (shown (chip_of meaning d)) =
       λ t e. agrees_turned h (view_of meaning c).table t before after e same k.table in
       done meaning h calls.Sync d tt
       (follows_on meaning h c d size power u (spaced u space holding) (old (view_of meaning d).table (ap (λ w. w.noted.table) e ∙ commit_table D (view_of meaning c))) (old u is))
-  on_sync (Refused f) (inl (r, _)) = absurd (never f (when_on None f r))
+  on_sync (Err f) (inl (r, _)) = absurd (never f (when_on None f r))
     where
       never : (f : Fault) → ◌≡◌ {A = Option Fault} None (Some f) → ⊥
       never f e = grind arith
-  on_sync (Refused f) (inr (_, dark, ((fails, left), _))) =
+  on_sync (Err f) (inr (_, dark, ((fails, left), _))) =
       failed meaning h calls.Sync f c d size fails.lost dark (left_more D (chip_of meaning d) _ _ (at_either h) (left k.committed k.holding))
-  on_sync (Data page) r = elim r [ ]
-  on_sync (Marks page len) r = elim r [ ]
+  on_sync (Ok (Data page)) r = elim r [ ]
+  on_sync (Ok (Marks page len)) r = elim r [ ]

@@ -1,5 +1,5 @@
 -- A read: the bytes of the page that holds the address are those that the history has there, and nothing changes.
-use Rattle.std.proofs.Common.{◌≡◌, ℕ, Bool, true, false, cond, eqb, ◌⊎◌, List, length, Some, None, sym, refl, ap, ◌∙◌, subst, subst₂, inl, inr, arith}
+use Rattle.std.proofs.Common.{◌≡◌, ℕ, Bool, true, false, cond, eqb, ◌⊎◌, List, length, Some, None, sym, refl, ap, ◌∙◌, subst, subst₂, inl, inr, arith, Ok, Err}
 use Rattle.std.proofs.lemmas.Bool.{both_ways}
 use Rattle.device.specs.declared.faults.Fault.{Fault}
 use Rattle.device.specs.declared.faults.Refusal.TheVariants.{BadSize, NotHeld}
@@ -14,10 +14,10 @@ use Rattle.table.proofs.Tablewise.{holds_from, held_at}
 use Rattle.recovery.specs.Looking.{shown, Quiet}
 use Rattle.recovery.specs.Recovering.{cache_fault}
 use Rattle.recovery.proofs.Wholly.{moved}
-use Rattle.cache.specs.declared.working.Cache.{Cache}
+use Rattle.cache.specs.Views.{Working}
 use Rattle.history.specs.declared.calls.Call.TheVariants.{Read}
-use Rattle.history.specs.declared.calls.Answer.{Answer}
-use Rattle.history.specs.declared.calls.Answer.TheVariants.{Done, Data, Marks, Refused}
+use Rattle.history.specs.Answers.{Answer}
+use Rattle.history.specs.declared.calls.Served.TheVariants.{Done, Data, Marks}
 use Rattle.journal.specs.Notes.{pages_of}
 use Rattle.journal.specs.Points.{point}
 use Rattle.engine.specs.Works.{Holding}
@@ -40,7 +40,7 @@ same_bytes pages i j a x y e p q =
 
 -- what the page holds that the table has for the address
 read_back : (slot : Slot) (t : Table) (pages : ℕ → State) (a i : ℕ) (page : List ℕ) → ProperTable t → SlotIs slot t pages a → holds a (entry_at t i) ≡ true → PageHas pages i a page
-    → ReadsBack slot (Data page)
+    → ReadsBack slot (Ok (Data page))
 read_back absent t pages a i page proper k h has = both_ways (held t a) k (held_at t a i h)
 read_back (cached bytes) t pages a i page proper (inl n) h has = absurd (both_ways (held t a) n (held_at t a i h))
 read_back (cached bytes) t pages a i page proper (inr (j, at, had)) h has = same_bytes pages i j a page bytes (proper.distinct i j a h at) has had
@@ -61,7 +61,7 @@ why t a len f e = go (eqb len 512) (held t a) refl e
     go true false h e = inr (ap (λ g. refusal_number g.refusal) (sym (is _ e)), h)
     go false there h e = inl (ap (λ g. refusal_number g.refusal) (sym (is _ e)))
 
-refused_back : (slot : Slot) (t : Table) (pages : ℕ → State) (a : ℕ) (f : Fault) → SlotIs slot t pages a → Why t a f → ReadsBack slot (Refused f)
+refused_back : (slot : Slot) (t : Table) (pages : ℕ → State) (a : ℕ) (f : Fault) → SlotIs slot t pages a → Why t a f → ReadsBack slot (Err f)
 refused_back absent t pages a f k (inl e) = inr e
 refused_back absent t pages a f k (inr (e, _)) = inl e
 refused_back (cached bytes) t pages a f k (inl e) = inr e
@@ -73,7 +73,7 @@ bright : (t : Table) (a : ℕ) (f : Fault) → Why t a f → eqb (refusal_number
 bright t a f (inl e) = ap (λ n. eqb n 1) e
 bright t a f (inr (e, _)) = ap (λ n. eqb n 1) e
 
-module _ {C : Type 0} (meaning : C → Pages) (h : History) (c d : Cache C) (size : d.journal.geometry ≡ c.journal.geometry) (k : FollowsOn meaning h c) where
+module _ {C : Type 0} (meaning : C → Pages) (h : History) (c d : Working C) (size : d.journal.geometry ≡ c.journal.geometry) (k : FollowsOn meaning h c) where
   proper : ProperTable (view_of meaning c).table
   proper = k.holding.keeps.ready.proper
 
@@ -89,15 +89,15 @@ module _ {C : Type 0} (meaning : C → Pages) (h : History) (c d : Cache C) (siz
       (subst (Agrees h k.committed) (sym shows) k.agrees)
 
   pub on_read : (a : DiskAddress) (len : ℕ) (x : Answer) → ReadServes meaning a.0 len c x d → Next meaning (on h) (Read a len) x d
-  on_read a len Done r = elim r [ ]
-  on_read a len (Marks page n) r = elim r [ ]
-  on_read a len (Data page) (buf, _, (_, power, ((quiet, (i, at, has), keeps), view, space))) =
+  on_read a len (Ok Done) r = elim r [ ]
+  on_read a len (Ok (Marks page n)) r = elim r [ ]
+  on_read a len (Ok (Data page)) (buf, _, (_, power, ((quiet, (i, at, has), keeps), view, space))) =
       (on h, (read_back (h a.0) (view_of meaning c).table (shown (chip_of meaning c)) a.0 i page proper (k.table a.0) at has, refl), read_on quiet keeps power view space)
-  on_read a len (Refused f) (buf, after, _, (_, inl (r, e))) =
+  on_read a len (Err f) (buf, after, _, (_, inl (r, e))) =
       let y = why (view_of meaning c).table a.0 (length buf) f (subst (λ o. read_refusal o (view_of meaning c).table a.0 (length buf) ≡ Some f) k.power r) in
       refused meaning h (Read a len) f d (bright (view_of meaning c).table a.0 f y)
       (refused_back (h a.0) (view_of meaning c).table (shown (chip_of meaning c)) a.0 f (k.table a.0) y) (subst (FollowsOn meaning h) (sym e) k)
-  on_read a len (Refused f) (buf, after, _, (_, inr (_, dark, (_, fails, left)))) =
+  on_read a len (Err f) (buf, after, _, (_, inr (_, dark, (_, fails, left)))) =
       failed meaning h (Read a len) f c d size fails.lost dark
       (left_more (pages_of c.journal) (chip_of meaning d) (λ x. x ≡ point k.committed (shown (chip_of meaning c))) (AgreesOne h h)
       (λ x e. inl (agrees_at h k.committed (shown (chip_of meaning c)) x e k.agrees)) (left k.committed k.holding))

@@ -11,10 +11,10 @@ use Rattle.recovery.proofs.OneAnswer.{finds_answer}
 use Rattle.recovery.proofs.Wholly.{logged_length}
 use Rattle.journal.specs.declared.memory.Journal.{Journal}
 use Rattle.space.specs.declared.blanks.Space.{Space}
-use Rattle.cache.specs.declared.working.Cache.{Cache}
+use Rattle.cache.specs.Views.{Working}
 use Rattle.history.specs.declared.calls.Call.TheVariants.{PowerOn}
-use Rattle.history.specs.declared.calls.Answer.{Answer}
-use Rattle.history.specs.declared.calls.Answer.TheVariants.{Done, Data, Marks, Refused}
+use Rattle.history.specs.Answers.{Answer}
+use Rattle.history.specs.declared.calls.Served.TheVariants.{Done, Data, Marks}
 use Rattle.journal.specs.Notes.{noted, pages_of}
 use Rattle.journal.specs.Points.{Point, point, Left}
 use Rattle.engine.specs.Works.{CutTo, Woken, StaysDark}
@@ -72,7 +72,7 @@ dark_lost D small m m' f Among left (_, inl (lost, ways)) = (lost, λ s l. left 
 dark_lost D small m m' f Among left (_, inr (_, cut, failed)) =
     let (x, among, reads, (area, n, (next, found))) = left (shown m') (cut_way m m' cut) in absurd (never_both D small (shown m') _ f found failed)
 
-module _ {C : Type 0} (meaning : C → Pages) (c d : Cache C) (size : d.journal.geometry ≡ c.journal.geometry) where
+module _ {C : Type 0} (meaning : C → Pages) (c d : Working C) (size : d.journal.geometry ≡ c.journal.geometry) where
   abbrev D : ℕ
   D = pages_of c.journal
 
@@ -103,23 +103,23 @@ module _ {C : Type 0} (meaning : C → Pages) (c d : Cache C) (size : d.journal.
         (left_of_holds D (chip_of meaning c) (view_of meaning c).area (view_of meaning c).number k.committed (shown (chip_of meaning c)) k.holding.keeps.ready.holds firm)
 
     pub on_waked : (x : Answer) → Plain (λ r. PowerCall meaning c r d) x → Next meaning (on h) PowerOn x d
-    on_waked Done (power, w) =
+    on_waked (Ok Done) (power, w) =
         done meaning h PowerOn d refl (woken_on h power w (⊎_elim (λ a. a) (λ a. a) (woken_agrees D small (chip_of meaning c) (chip_of meaning d) d.journal d.space h h held_left w)))
-    on_waked (Refused f) (power, dark, _, _) =
+    on_waked (Err f) (power, dark, _, _) =
         let (lost, left) = dark_lost D small (chip_of meaning c) (chip_of meaning d) f (AgreesOne h h) held_left dark in
         darkened meaning h PowerOn f d (lost_number f (chip_of meaning d) lost) (dark_off h h f power lost left)
-    on_waked (Data page) r = elim r [ ]
-    on_waked (Marks page len) r = elim r [ ]
+    on_waked (Ok (Data page)) r = elim r [ ]
+    on_waked (Ok (Marks page len)) r = elim r [ ]
 
   module _ (h h' : History) (k : FollowsOff meaning h h' c) where
     pub off_waked : (x : Answer) → Plain (λ r. PowerCall meaning c r d) x → Next meaning (off h h') PowerOn x d
-    off_waked Done (power, w) = go (woken_agrees D small (chip_of meaning c) (chip_of meaning d) d.journal d.space h h' k.left w)
+    off_waked (Ok Done) (power, w) = go (woken_agrees D small (chip_of meaning c) (chip_of meaning d) d.journal d.space h h' k.left w)
       where
-        go : Agrees h (view_of meaning d).table (shown (chip_of meaning d)) ⊎ Agrees h' (view_of meaning d).table (shown (chip_of meaning d)) → Next meaning (off h h') PowerOn Done d
+        go : Agrees h (view_of meaning d).table (shown (chip_of meaning d)) ⊎ Agrees h' (view_of meaning d).table (shown (chip_of meaning d)) → Next meaning (off h h') PowerOn (Ok Done) d
         go (inl a) = (on h, (tt, refl, inl refl), woken_on h power w a)
         go (inr a) = (on h', (tt, refl, inr refl), woken_on h' power w a)
-    off_waked (Refused f) (power, dark, _, _) =
+    off_waked (Err f) (power, dark, _, _) =
         let (lost, left) = dark_lost D small (chip_of meaning c) (chip_of meaning d) f (AgreesOne h h') k.left dark in
         still_dark meaning h h' PowerOn f d (lost_number f (chip_of meaning d) lost) (dark_off h h' f power lost left)
-    off_waked (Data page) r = elim r [ ]
-    off_waked (Marks page len) r = elim r [ ]
+    off_waked (Ok (Data page)) r = elim r [ ]
+    off_waked (Ok (Marks page len)) r = elim r [ ]

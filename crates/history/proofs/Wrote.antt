@@ -1,5 +1,5 @@
 -- A write moves a history on as its answer says, and the cache follows.
-use Rattle.std.proofs.Common.{◌≡◌, ℕ, ◌<◌, Bool, true, false, cond, eqb, ◌⊎◌, List, [], ◌∷◌, length, Some, None, Ok, Option, sym, refl, ap, ◌∙◌, subst, inl, inr, ⊎_elim, arith, Bor}
+use Rattle.std.proofs.Common.{◌≡◌, ℕ, ◌<◌, Bool, true, false, cond, eqb, ◌⊎◌, List, [], ◌∷◌, length, Some, None, Ok, Option, sym, refl, ap, ◌∙◌, subst, inl, inr, ⊎_elim, arith, Bor, Err}
 use Rattle.std.proofs.lemmas.Bool.{eqb-true, both_ways, cases_Bool, true≢false}
 use Rattle.device.specs.declared.faults.Fault.{Fault}
 use Rattle.device.specs.declared.faults.Refusal.TheVariants.{BadSize}
@@ -21,12 +21,12 @@ use Rattle.engine.specs.Works.{Holding, WritePoints, WriteCommits, Writes}
 use Rattle.space.specs.Worlds.{World, world, blank_page, placed_pages}
 use Rattle.space.specs.declared.blanks.Space.{Space}
 use Rattle.cache.specs.Refusals.{write_refusal, off_by}
-use Rattle.cache.specs.declared.working.Cache.{Cache}
+use Rattle.cache.specs.Views.{Working}
 use Rattle.cache.specs.Caches.{chip_of, view_of, WriteCall}
 use Rattle.history.specs.declared.calls.Call.{Call}
 use Rattle.history.specs.declared.calls.Call.TheVariants.{WriteDirty, WriteClean}
-use Rattle.history.specs.declared.calls.Answer.{Answer}
-use Rattle.history.specs.declared.calls.Answer.TheVariants.{Done, Data, Marks, Refused}
+use Rattle.history.specs.Answers.{Answer}
+use Rattle.history.specs.declared.calls.Served.TheVariants.{Done, Data, Marks}
 use Rattle.history.specs.Histories.{History, with_slot, step, Says, Phase, Moves}
 use Rattle.history.specs.Histories.Slot.{cached}
 use Rattle.history.specs.Histories.Phase.{on, off}
@@ -159,7 +159,7 @@ never_none o a len f h k = let e = off_refused o a len f h in let z : ◌≡◌ 
 
 -- The call.
 
-module _ {C : Type 0} (meaning : C → Pages) (dirty : Bool) (a : ℕ) (bytes : List ℕ) (c d : Cache C) (size : d.journal.geometry ≡ c.journal.geometry) where
+module _ {C : Type 0} (meaning : C → Pages) (dirty : Bool) (a : ℕ) (bytes : List ℕ) (c d : Working C) (size : d.journal.geometry ≡ c.journal.geometry) where
   abbrev blocks : ℕ
   blocks = c.journal.geometry.blocks
 
@@ -207,36 +207,36 @@ module _ {C : Type 0} (meaning : C → Pages) (dirty : Bool) (a : ℕ) (bytes : 
     abbrev Moved : Phase → Answer → Type 0
     Moved p x = (next : Phase) × Moves p call x next × Follows meaning next d
 
-    refused : (h : History) (g : Fault) (n : ℕ) → refusal_number g.refusal ≡ n → eqb n 1 ≡ false → eqb n 0 ≡ false → FollowsOn meaning h d → Moved (on h) (Refused g)
-    refused h g n e bright not f = (on h, moves_refused h call (Refused g) (ap (λ k. eqb k 1) e ∙ bright) (ap (λ k. eqb k 0) e ∙ not) (says h (Refused g)), f)
+    refused : (h : History) (g : Fault) (n : ℕ) → refusal_number g.refusal ≡ n → eqb n 1 ≡ false → eqb n 0 ≡ false → FollowsOn meaning h d → Moved (on h) (Err g)
+    refused h g n e bright not f = (on h, moves_refused h call (Err g) (ap (λ k. eqb k 1) e ∙ bright) (ap (λ k. eqb k 0) e ∙ not) (says h (Err g)), f)
 
     wrote : (p : Phase) (x : Answer) → Follows meaning p c → Plain (λ r. WriteCall meaning dirty a bytes c r d) x → Moved p x
-    wrote (on h) Done f (none, power, works) =
-        (on (step h call), moves_served h call Done refl (says h Done), subst (λ k. FollowsOn meaning k d) (sym (stepped h)) (served_follows h f power works))
-    wrote (on h) (Refused g) f (inl (refusal, same)) =
+    wrote (on h) (Ok Done) f (none, power, works) =
+        (on (step h call), moves_served h call (Ok Done) refl (says h (Ok Done)), subst (λ k. FollowsOn meaning k d) (sym (stepped h)) (served_follows h f power works))
+    wrote (on h) (Err g) f (inl (refusal, same)) =
         refused h g 2 (refused_number c.off a (length bytes) g f.power refusal) refl refl (subst (FollowsOn meaning h) (sym same) f)
-    wrote (on h) (Refused g) f (inr (none, power, inl (full, no_room, chip, view, space))) =
+    wrote (on h) (Err g) f (inr (none, power, inl (full, no_room, chip, view, space))) =
         refused h g 9 (ap (λ k. refusal_number k.refusal) full) refl refl (follows_again meaning c d size h (power ∙ ap off_by full) chip view space f)
-    wrote (on h) (Refused g) f (inr (none, power, inr (fails, left))) = (
+    wrote (on h) (Err g) f (inr (none, power, inr (fails, left))) = (
       off h (step h call),
-      moves_dark h call (Refused g) (lost_number g (chip_of meaning d) fails.lost),
+      moves_dark h call (Err g) (lost_number g (chip_of meaning d) fails.lost),
       subst (λ k. FollowsOff meaning h k d) (sym (stepped h)) (failed_follows h f g power fails left),
     )
-    wrote (on h) (Data page) f k = absurd k
-    wrote (on h) (Marks page len) f k = absurd k
-    wrote (off h h') Done f (none, power, works) = absurd (never_none c.off a (length bytes) f.fault f.power none)
-    wrote (off h h') (Refused g) f (inl (refusal, same)) = (
+    wrote (on h) (Ok (Data page)) f k = absurd k
+    wrote (on h) (Ok (Marks page len)) f k = absurd k
+    wrote (off h h') (Ok Done) f (none, power, works) = absurd (never_none c.off a (length bytes) f.fault f.power none)
+    wrote (off h h') (Err g) f (inl (refusal, same)) = (
       off h h',
-      stays_dark h h' call (Refused g) (ap (λ k. refusal_number k.refusal) (same_fault c.off a (length bytes) f.fault g f.power refusal) ∙ f.number),
+      stays_dark h h' call (Err g) (ap (λ k. refusal_number k.refusal) (same_fault c.off a (length bytes) f.fault g f.power refusal) ∙ f.number),
       subst (FollowsOff meaning h h') (sym same) f,
     )
-    wrote (off h h') (Refused g) f (inr (none, power, works)) = absurd (never_none c.off a (length bytes) f.fault f.power none)
-    wrote (off h h') (Data page) f k = absurd k
-    wrote (off h h') (Marks page len) f k = absurd k
+    wrote (off h h') (Err g) f (inr (none, power, works)) = absurd (never_none c.off a (length bytes) f.fault f.power none)
+    wrote (off h h') (Ok (Data page)) f k = absurd k
+    wrote (off h h') (Ok (Marks page len)) f k = absurd k
 
 -- The two writes.
 
-module _ {C : Type 0} (meaning : C → Pages) (p : Phase) (c d : Cache C) (a : DiskAddress) (bytes : Bor (List ℕ)) (x : Answer) where
+module _ {C : Type 0} (meaning : C → Pages) (p : Phase) (c d : Working C) (a : DiskAddress) (bytes : Bor (List ℕ)) (x : Answer) where
   pub wrote_dirty : d.journal.geometry ≡ c.journal.geometry → Follows meaning p c → Serves meaning c (WriteDirty a bytes) x d
       → (next : Phase) × Moves p (WriteDirty a bytes) x next × Follows meaning next d
   wrote_dirty size f h = wrote meaning true a.0 bytes.now c d size (WriteDirty a bytes) (λ h. refl) (λ h x. tt) p x f h

@@ -10,7 +10,7 @@ use Rattle.recovery.specs.Looking.{shown}
 use Rattle.table.specs.Tables.{Table, entry, entry_at, holds, held}
 use Rattle.journal.specs.Notes.{pages_of}
 use Rattle.journal.specs.Points.{Left}
-use Rattle.cache.specs.declared.working.Cache.{Cache}
+use Rattle.cache.specs.Views.{Working}
 use Rattle.cache.specs.Caches.{chip_of, view_of, HoldsTable}
 use Rattle.history.specs.Histories.{Slot, History, Phase}
 use Rattle.history.specs.Histories.Slot.{absent, cached, kept}
@@ -31,7 +31,7 @@ Agrees h t pages = (a : ℕ) → SlotIs (h a) t pages a
 
 module _ {C : Type 0} (meaning : C → Pages) where
   -- the table in memory and the committed one both agree with the history
-  pub record FollowsOn (h : History) (c : Cache C) : Type 0 where
+  pub record FollowsOn (h : History) (c : Working C) : Type 0 where
     pub power : c.off ≡ None
     pub table : Agrees h (view_of meaning c).table (shown (chip_of meaning c))
     pub committed : Table
@@ -39,12 +39,12 @@ module _ {C : Type 0} (meaning : C → Pages) where
     pub agrees : Agrees h committed (shown (chip_of meaning c))
 
   -- whichever way a cut goes, recovery comes out at a table that agrees with one of the two histories
-  pub record FollowsOff (h h' : History) (c : Cache C) : Type 0 where
+  pub record FollowsOff (h h' : History) (c : Working C) : Type 0 where
     pub fault : Fault
     pub power : c.off ≡ Some fault
     pub number : refusal_number fault.refusal ≡ 1
     pub left : Left (pages_of c.journal) (chip_of meaning c) (λ x. Agrees h x.table x.pages ⊎ Agrees h' x.table x.pages)
 
-  abbrev pub Follows : Phase → Cache C → Type 0
+  abbrev pub Follows : Phase → Working C → Type 0
   Follows (on h) c = FollowsOn h c
   Follows (off h h') c = FollowsOff h h' c

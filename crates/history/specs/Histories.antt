@@ -1,10 +1,10 @@
 -- What a run of calls promises. A history says of each disk address what the calls so far have made of it; the answers have to fit it.
-use Rattle.std.specs.Prelude.{◌≡◌, ℕ, Bool, true, cond, ◌⊎◌, List, [], ◌∷◌, ◌==◌}
+use Rattle.std.specs.Prelude.{◌≡◌, ℕ, Bool, true, cond, ◌⊎◌, List, [], ◌∷◌, ◌==◌, Ok, Err}
 use Rattle.device.specs.Faults.{refusal_number}
 use Rattle.history.specs.declared.calls.Call.{Call}
 use Rattle.history.specs.declared.calls.Call.TheVariants.{WriteDirty, WriteClean, Read, Evict, Clean, Exists, Sync, PowerOn}
-use Rattle.history.specs.declared.calls.Answer.{Answer}
-use Rattle.history.specs.declared.calls.Answer.TheVariants.{Done, Data, Marks, Refused}
+use Rattle.history.specs.Answers.{Answer}
+use Rattle.history.specs.declared.calls.Served.TheVariants.{Done, Data, Marks}
 
 -- An address is absent, or holds cached bytes, which may be dropped, or holds kept bytes, which may not.
 pub data Slot : Type 0 where
@@ -40,10 +40,10 @@ step h PowerOn = h
 
 -- an answer's number, 0 if the call was served
 abbrev pub number_of : Answer → ℕ
-number_of Done = 0
-number_of (Data page) = 0
-number_of (Marks page len) = 0
-number_of (Refused f) = refusal_number f.refusal
+number_of (Ok Done) = 0
+number_of (Ok (Data page)) = 0
+number_of (Ok (Marks page len)) = 0
+number_of (Err f) = refusal_number f.refusal
 
 -- no power: the call was refused with number 1
 abbrev pub dark : Answer → Bool
@@ -55,14 +55,14 @@ served x = number_of x == 0
 -- What a read may answer, apart from number 1: kept bytes are read back; cached ones are read back, or are absent (8); absent is absent. A buffer of a
 -- wrong size is refused with 2, whatever is there.
 abbrev pub ReadsBack : Slot → Answer → Type 0
-ReadsBack slot Done = ⊥
-ReadsBack slot (Marks page len) = ⊥
-ReadsBack absent (Data page) = ⊥
-ReadsBack (cached bytes) (Data page) = page ≡ bytes
-ReadsBack (kept bytes) (Data page) = page ≡ bytes
-ReadsBack absent (Refused f) = (refusal_number f.refusal ≡ 8) ⊎ (refusal_number f.refusal ≡ 2)
-ReadsBack (cached bytes) (Refused f) = (refusal_number f.refusal ≡ 8) ⊎ (refusal_number f.refusal ≡ 2)
-ReadsBack (kept bytes) (Refused f) = refusal_number f.refusal ≡ 2
+ReadsBack slot (Ok Done) = ⊥
+ReadsBack slot (Ok (Marks page len)) = ⊥
+ReadsBack absent (Ok (Data page)) = ⊥
+ReadsBack (cached bytes) (Ok (Data page)) = page ≡ bytes
+ReadsBack (kept bytes) (Ok (Data page)) = page ≡ bytes
+ReadsBack absent (Err f) = (refusal_number f.refusal ≡ 8) ⊎ (refusal_number f.refusal ≡ 2)
+ReadsBack (cached bytes) (Err f) = (refusal_number f.refusal ≡ 8) ⊎ (refusal_number f.refusal ≡ 2)
+ReadsBack (kept bytes) (Err f) = refusal_number f.refusal ≡ 2
 
 -- what an answer other than number 1 says of the history; a power-on is never refused otherwise
 abbrev pub Says : History → Call → Answer → Type 0

@@ -1,3 +1,4 @@
+pub mod Answers
 pub mod Histories
 pub mod Serving
 pub mod Following

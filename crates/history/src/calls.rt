@@ -14,14 +14,16 @@ pub enum Call<'a> {
     PowerOn,
 }
 
-// What a call answered.
+// What a call was served with.
 #[derive(Clone, Copy)]
-pub enum Answer {
-    // served
+pub enum Served {
+    // nothing but that it is done
     Done,
-    // served, with the data
+    // the data
     Data([u8; 512]),
-    // served, with so many marks
+    // so many marks; with an `ArrayVec` in their place an answer could not be copied, which is no plainer
     Marks([u8; 512], u16),
-    Refused(Fault),
 }
+
+// What a call answered.
+pub type Answer = Result<Served, Fault>;

@@ -5,5 +5,5 @@ mod calls;
 mod runs;
 mod serving;
 
-pub use calls::{Answer, Call};
-pub use runs::{Outcome, Ran, run};
+pub use calls::{Answer, Call, Served};
+pub use runs::{NotRun, Ran, run};

@@ -1,9 +1,8 @@
 // One call of a list, made on a cache.
 ghost use Rattle.std.specs.Prelude.{◌≡◌, length};
-ghost use Rattle.cache.specs.Caches.{Sound};
 ghost use Rattle.history.specs.Serving.{Plain, Serves, ReadServes, ExistsServes};
 
-use crate::calls::{Answer, Call};
+use crate::calls::{Answer, Call, Served};
 use cache::Cache;
 use device::{Chip, DiskAddress, Fault};
 
@@ -11,51 +10,36 @@ use device::{Chip, DiskAddress, Fault};
 fn plain(res: Result<(), Fault>) -> Answer
     ensures { Plain (λ x. x ≡ res) result }
 {
-    match res {
-        Ok(()) => Answer::Done,
-        Err(fault) => Answer::Refused(fault),
-    }
+    res?;
+    Ok(Served::Done)
 }
 
 // A read into so much of the scratch buffer.
 fn read<C: Chip>(cache: &mut Cache<C>, address: DiskAddress, len: u16, scratch: &mut [u8]) -> Answer
-    requires sound { Sound C.Chip.meaning C.Chip.sound cache.old }
     requires room { length scratch.old ≡ 65536 }
-    ensures sound { Sound C.Chip.meaning C.Chip.sound cache.new }
     ensures size { cache.new.journal.geometry ≡ cache.old.journal.geometry }
     ensures serves { ReadServes C.Chip.meaning address.0 len cache.old result cache.new }
 {
-    match cache.read(address, &mut scratch[0..len as usize]) {
-        Ok(()) => {
-            let mut page = [0u8; 512];
-            page.copy_from_slice(&scratch[0..512]);
-            Answer::Data(page)
-        }
-        Err(fault) => Answer::Refused(fault),
-    }
+    cache.read(address, &mut scratch[0..len as usize])?;
+    let mut page = [0u8; 512];
+    page.copy_from_slice(&scratch[0..512]);
+    Ok(Served::Data(page))
 }
 
 // The marks of so many addresses, by way of the scratch buffer.
 fn exists<C: Chip>(cache: &Cache<C>, first: DiskAddress, len: u16, scratch: &mut [u8]) -> Answer
-    requires sound { Sound C.Chip.meaning C.Chip.sound cache.now }
     requires room { length scratch.old ≡ 65536 }
     ensures { ExistsServes C.Chip.meaning first.0 len cache.now result cache.now }
 {
-    match cache.exists(first, &mut scratch[0..len as usize]) {
-        Ok(()) => {
-            let mut page = [0u8; 512];
-            page[0..len as usize].copy_from_slice(&scratch[0..len as usize]);
-            Answer::Marks(page, len)
-        }
-        Err(fault) => Answer::Refused(fault),
-    }
+    cache.exists(first, &mut scratch[0..len as usize])?;
+    let mut page = [0u8; 512];
+    page[0..len as usize].copy_from_slice(&scratch[0..len as usize]);
+    Ok(Served::Marks(page, len))
 }
 
 // Makes one call. The scratch buffer has room for any length that a call can name.
 pub fn serve<C: Chip>(cache: &mut Cache<C>, call: &Call, scratch: &mut [u8]) -> Answer
-    requires sound { Sound C.Chip.meaning C.Chip.sound cache.old }
     requires room { length scratch.old ≡ 65536 }
-    ensures sound { Sound C.Chip.meaning C.Chip.sound cache.new }
     ensures size { cache.new.journal.geometry ≡ cache.old.journal.geometry }
     ensures serves { Serves C.Chip.meaning cache.old call.now result cache.new }
 {

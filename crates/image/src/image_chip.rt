@@ -1,225 +1,179 @@
 // A flash chip over an image that the caller lends.
-ghost use Rattle.std.specs.Prelude.{◌≡◌, ℕ, ◌+◌, ◌*◌, ◌/◌, ◌<◌, ◌≤◌, true, length, OnOk, slice_index};
+ghost use Rattle.std.specs.Prelude.{◌≡◌, ℕ, ◌+◌, ◌*◌, ◌<◌, length, OnOk, slice_index};
 ghost use Rattle.device.specs.declared.faults.Refusal.TheVariants.{PowerOff};
 ghost use Rattle.device.specs.Cells.{reads};
 ghost use Rattle.device.specs.Faults.{chip_fault};
 ghost use Rattle.device.specs.Chips.{read_refusal, program_refusal, erase_refusal, sync_refusal};
 ghost use Rattle.device.specs.Chips.State.{held};
-ghost use Rattle.chip_frames.specs.Frames.{Whole, blocks_in, page_in, Framed, Restated, settling, erasing, cutting};
-ghost use Rattle.image.specs.Exact.{Counted, Looked, Switched, Allows, Burns};
-ghost use Rattle.image.specs.OfChip.{chip_view, chip_means, ChipUnfit, ChipMade};
+ghost use Rattle.chip_frames.specs.Frames.{state_at, Whole, blocks_in, page_in, Framed, Restated, settling, erasing, cutting};
+ghost use Rattle.chip_frames.specs.Codes.{state_of};
+ghost use Rattle.image.specs.Exact.{Counted, Looked, Switched, Allows};
 
-use crate::fuses::{is_spent, one_less, take_next};
-use crate::unfit::Unfit;
-use device::{Chip, ChipPage, EraseBlock, Fault, Layer, Refusal};
+use crate::fuses::Power;
+use crate::unfit::{Unfit, serves};
+use chip_frames::State;
+use device::{Chip, ChipPage, EraseBlock, Fault, Layer, Note, Refusal};
+
+// The pages of an erase block, the bytes of their frames, and the most erase blocks.
+const PAGES: u32 = 8;
+
+const BLOCK: usize = PAGES as usize * chip_frames::FRAME;
+
+const BLOCKS: usize = 64;
 
 // A chip whose pages are the frames of an image. It is made off.
 #[derive(Drop)]
 pub struct ImageChip<'a> {
     image: &'a mut [u8],
-    rest: &'a [u32],
-    left: Option<u32>,
-    on: bool,
-}
-
-fn refuse(place: u32, refusal: Refusal) -> Fault
-    ensures { result ≡ chip_fault place refusal }
-{
-    Fault {
-        refusal,
-        layer: Layer::Chip,
-        place,
-    }
-}
-
-// Why the image or its fuses do not serve, if they do not.
-fn unfit(image: &[u8], fuses: &[u32]) -> Option<Fault>
-    ensures { ChipUnfit image.now fuses.now result }
-{
-    let len = image.len();
-    let blocks = chip_frames::blocks_in(image);
-    if len != 4160 * blocks || blocks == 0 || blocks > 64 || fuses.len() > 8 {
-        return Some(refuse(0, Refusal::BadSize));
-    }
-    match chip_frames::first_bad(image) {
-        Some(p) => Some(refuse(p, Refusal::Breach)),
-        None => None,
-    }
+    power: Power<'a>,
+    ghost whole: { Whole image.now },
 }
 
 impl<'a> ImageChip<'a> {
+    ghost use Rattle.image.specs.OfChip.{chip_view, chip_means, ChipUnfit, ChipMade};
+
+    // Refuses an image that does not serve, and fuses that do not.
+    fn fit(image: &[u8], fuses: &[u32]) -> Result<(), Fault>
+        ensures { ChipUnfit image.now fuses.now result }
+    {
+        serves(Layer::Chip, image, BLOCK, BLOCKS, fuses)?;
+        match chip_frames::first_bad(image) {
+            Some(page) => Err(Refusal::Breach.at(Layer::Chip, page)),
+            None => Ok(()),
+        }
+    }
+
     // A chip over an image, off, with up to eight fuses.
     pub fn new(image: &'a mut [u8], fuses: &'a [u32]) -> Result<ImageChip<'a>, Unfit<'a>>
         ensures { ChipMade image.old fuses.now result }
     {
-        match unfit(image, fuses) {
-            Some(fault) => Err(Unfit { fault, image }),
-            None => Ok(ImageChip {
+        match ImageChip::fit(image, fuses) {
+            Ok(()) => Ok(ImageChip {
                 image,
-                rest: fuses,
-                left: None,
-                on: false,
+                power: Power::off(fuses),
             }),
+            Err(fault) => Err(Unfit { fault, image }),
         }
     }
-}
 
-impl ImageChip<'_> {
-    fn state(&self, page: ChipPage) -> u8
+    // What the frame of a page says of it.
+    fn state(&self, page: ChipPage) -> State
         requires { 520 * page.0 < length self.now.image.now }
-        ensures { result ≡ slice_index self.now.image.now (520 * page.0) }
+        ensures { result ≡ state_of (state_at self.now.image.now page.0) }
     {
-        self.image[520 * page.0 as usize]
+        State::from(self.image[chip_frames::FRAME * page.0 as usize])
     }
 
     fn block_count(&self) -> u32
-        requires { Whole self.now.image.now }
         ensures { result ≡ blocks_in self.now.image.now }
     {
         chip_frames::blocks_in(self.image) as u32
     }
 
+    fn page_count(&self) -> u32
+        ensures { result ≡ 8 * blocks_in self.now.image.now }
+    {
+        PAGES * self.block_count()
+    }
+
     fn allows_program(&self, page: ChipPage, len: usize) -> Result<(), Fault>
-        requires { Whole self.now.image.now }
         ensures rule { Allows (program_refusal (chip_means (chip_view self.now)) page.0 len) result }
         ensures inside { OnOk result ((page.0 < 8 * blocks_in self.now.image.now) × (len ≡ 512)) }
     {
-        if !self.on {
-            return Err(refuse(page.0, Refusal::PowerOff));
-        }
-        if len != 512 {
-            return Err(refuse(page.0, Refusal::BadSize));
-        }
-        if page.0 >= 8 * self.block_count() {
-            return Err(refuse(page.0, Refusal::OutOfRange));
-        }
+        self.power
+            .allows(Layer::Chip, page.0, len, self.page_count())?;
         match self.state(page) {
-            0 => Ok(()),
-            3..=5 => Err(refuse(page.0, Refusal::Unsettled)),
-            _ => Err(refuse(page.0, Refusal::NotBlank)),
+            State::Blank => Ok(()),
+            State::Held | State::Torn => Err(Refusal::NotBlank.at(Layer::Chip, page.0)),
+            _ => Err(Refusal::Unsettled.at(Layer::Chip, page.0)),
         }
     }
 
     fn allows_erase(&self, block: EraseBlock) -> Result<(), Fault>
-        requires { Whole self.now.image.now }
         ensures { Allows (erase_refusal (chip_means (chip_view self.now)) block.0) result }
     {
-        if !self.on {
-            return Err(refuse(block.0, Refusal::PowerOff));
-        }
+        self.power.needed(Layer::Chip, block.0)?;
         if block.0 >= self.block_count() {
-            return Err(refuse(block.0, Refusal::OutOfRange));
+            return Err(Refusal::OutOfRange.at(Layer::Chip, block.0));
         }
         if chip_frames::any_unsettled(self.image, block) {
-            return Err(refuse(block.0, Refusal::Unsettled));
+            return Err(Refusal::Unsettled.at(Layer::Chip, block.0));
         }
-        Ok(())
-    }
-
-    // One call less to come, or the power fails.
-    fn burn(&mut self, place: u32) -> Result<(), Fault>
-        ensures { Burns (chip_fault place PowerOff) (chip_view self.old) result (chip_view self.new) }
-    {
-        if is_spent(self.left) {
-            self.on = false;
-            return Err(refuse(place, Refusal::PowerOff));
-        }
-        self.left = one_less(self.left);
         Ok(())
     }
 
     // Reads a page. It does not count, and nothing changes.
-    pub fn read_frame(&self, page: ChipPage, buf: &mut [u8]) -> Result<(u8, u8, u32), Fault>
-        requires { Whole self.now.image.now }
+    pub fn read_frame(&self, page: ChipPage, buf: &mut [u8]) -> Result<Note, Fault>
         ensures { Looked (read_refusal (chip_means (chip_view self.now)) page.0 (length buf.old)) (λ note. reads (page_in self.now.image.now page.0) ≡ held note buf.new) (buf.new ≡ buf.old) result }
     {
-        if !self.on {
-            return Err(refuse(page.0, Refusal::PowerOff));
-        }
-        if buf.len() != 512 {
-            return Err(refuse(page.0, Refusal::BadSize));
-        }
-        if page.0 >= 8 * self.block_count() {
-            return Err(refuse(page.0, Refusal::OutOfRange));
-        }
+        self.power
+            .allows(Layer::Chip, page.0, buf.len(), self.page_count())?;
         match self.state(page) {
-            0 | 4 | 5 => Err(refuse(page.0, Refusal::Blank)),
-            1 | 3 => Ok(chip_frames::read_frame(self.image, page.0 as usize, buf)),
-            _ => Err(refuse(page.0, Refusal::Torn)),
+            State::Blank | State::HeldErased | State::TornErased => {
+                Err(Refusal::Blank.at(Layer::Chip, page.0))
+            }
+            State::Held | State::Programmed => {
+                Ok(chip_frames::read_frame(self.image, page.0 as usize, buf))
+            }
+            State::Torn => Err(Refusal::Torn.at(Layer::Chip, page.0)),
         }
     }
 
     // Programs a page: only its own frame changes, and of that not the fate.
-    pub fn program_frame(
-        &mut self,
-        page: ChipPage,
-        note: (u8, u8, u32),
-        bytes: &[u8],
-    ) -> Result<(), Fault>
-        requires { Whole self.old.image.now }
-        ensures whole { Whole self.new.image.now }
-        ensures exact { Counted (program_refusal (chip_means (chip_view self.old)) page.0 (length bytes.now)) (chip_fault page.0 PowerOff) (chip_view self.old) (Framed self.old.image.now page.0 note bytes.now) result (chip_view self.new) }
+    pub fn program_frame(&mut self, page: ChipPage, note: Note, bytes: &[u8]) -> Result<(), Fault>
+        ensures { Counted (program_refusal (chip_means (chip_view self.old)) page.0 (length bytes.now)) (chip_fault page.0 PowerOff) (chip_view self.old) (Framed self.old.image.now page.0 note bytes.now) result (chip_view self.new) }
     {
         self.allows_program(page, bytes.len())?;
-        self.burn(page.0)?;
+        self.power.burn(Layer::Chip, page.0)?;
         chip_frames::write_frame(self.image, page.0 as usize, note, bytes);
         Ok(())
     }
 
     // Erases a block: only the state bytes of its pages change.
     pub fn erase_frames(&mut self, block: EraseBlock) -> Result<(), Fault>
-        requires { Whole self.old.image.now }
-        ensures whole { Whole self.new.image.now }
-        ensures exact { Counted (erase_refusal (chip_means (chip_view self.old)) block.0) (chip_fault block.0 PowerOff) (chip_view self.old) (Restated self.old.image.now (erasing self.old.image.now block.0)) result (chip_view self.new) }
+        ensures { Counted (erase_refusal (chip_means (chip_view self.old)) block.0) (chip_fault block.0 PowerOff) (chip_view self.old) (Restated self.old.image.now (erasing self.old.image.now block.0)) result (chip_view self.new) }
     {
         self.allows_erase(block)?;
-        self.burn(block.0)?;
+        self.power.burn(Layer::Chip, block.0)?;
         chip_frames::erase_frames(self.image, block);
         Ok(())
     }
 
     // Settles every page: only state bytes change.
     pub fn settle_frames(&mut self) -> Result<(), Fault>
-        requires { Whole self.old.image.now }
-        ensures whole { Whole self.new.image.now }
-        ensures exact { Counted (sync_refusal (chip_means (chip_view self.old))) (chip_fault 0 PowerOff) (chip_view self.old) (Restated self.old.image.now (settling self.old.image.now)) result (chip_view self.new) }
+        ensures { Counted (sync_refusal (chip_means (chip_view self.old))) (chip_fault 0 PowerOff) (chip_view self.old) (Restated self.old.image.now (settling self.old.image.now)) result (chip_view self.new) }
     {
-        if !self.on {
-            return Err(refuse(0, Refusal::PowerOff));
-        }
-        self.burn(0)?;
+        let power = &mut self.power;
+        power.needed(Layer::Chip, 0)?;
+        power.burn(Layer::Chip, 0)?;
         chip_frames::settle_frames(self.image);
         Ok(())
     }
 
     // A power cut by the fates, and power with the next fuse: only state bytes change.
     pub fn cut_and_power(&mut self)
-        requires { Whole self.old.image.now }
-        ensures whole { Whole self.new.image.now }
-        ensures exact { Switched (chip_view self.old) (Restated self.old.image.now (cutting self.old.image.now)) (chip_view self.new) }
+        ensures { Switched (chip_view self.old) (Restated self.old.image.now (cutting self.old.image.now)) (chip_view self.new) }
     {
         chip_frames::cut_frames(self.image);
-        let (next, later) = take_next(self.rest);
-        self.left = next;
-        self.rest = later;
-        self.on = true;
+        self.power.turn_on();
     }
 }
 
+// What the chip does exactly stands on the methods above. A clause here would take the place of the trait's rules, and so have to repeat them.
 impl Chip for ImageChip<'_> {
-    ghost meaning = { λ c. chip_means (chip_view c) };
+    ghost use Rattle.image.specs.OfChip.{chip_view, chip_means};
 
-    ghost sound = { λ c. Whole c.image.now };
+    ghost meaning = { λ c. chip_means (chip_view c) };
 
     fn blocks(&self) -> u32 {
         self.block_count()
     }
 
-    fn read(&mut self, page: ChipPage, buf: &mut [u8]) -> Result<(u8, u8, u32), Fault> {
+    fn read(&mut self, page: ChipPage, buf: &mut [u8]) -> Result<Note, Fault> {
         self.read_frame(page, buf)
     }
 
-    fn program(&mut self, page: ChipPage, note: (u8, u8, u32), bytes: &[u8]) -> Result<(), Fault> {
+    fn program(&mut self, page: ChipPage, note: Note, bytes: &[u8]) -> Result<(), Fault> {
         self.program_frame(page, note, bytes)
     }
 

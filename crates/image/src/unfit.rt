@@ -1,9 +1,36 @@
 // The refusal of an image, which gives it back.
-use device::Fault;
+ghost use Rattle.std.specs.Prelude.{◌≡◌, ◌<◌, length, OnOk, IfErr};
+ghost use Rattle.device.specs.declared.faults.Refusal.TheVariants.{BadSize};
+ghost use Rattle.image.specs.Exact.{Serves, fault_at};
+
+use device::{Fault, Layer, Refusal};
+
+// The most fuses that a device takes.
+const FUSES: usize = 8;
 
 // Why no device was made, and the image, untouched.
 #[derive(Drop)]
 pub struct Unfit<'a> {
     pub fault: Fault,
     pub image: &'a mut [u8],
+}
+
+// Refuses an image that is not 1 to `most` whole blocks, of so many bytes each, and a list of too many fuses.
+pub fn serves(
+    layer: Layer,
+    image: &[u8],
+    block: usize,
+    most: usize,
+    fuses: &[u32],
+) -> Result<(), Fault>
+    requires { 0 < block }
+    ensures ok { OnOk result (Serves (length image.now) block most fuses.now) }
+    ensures err { IfErr result (λ f. (f ≡ fault_at layer 0 BadSize) × (Serves (length image.now) block most fuses.now → ⊥)) }
+{
+    let len = image.len();
+    let blocks = len / block;
+    if len % block != 0 || blocks == 0 || blocks > most || fuses.len() > FUSES {
+        return Err(Refusal::BadSize.at(layer, 0));
+    }
+    Ok(())
 }

@@ -1,22 +1,17 @@
 -- A call that its conditions allow is served, or power fails in it; and whichever it is, it leaves the settled pages that it does not change.
-use Rattle.std.proofs.Common.{◌≡◌, ℕ, zero, suc, ◌*◌, ◌<◌, true, false, cond, ◌&&◌, eqb, ltb, List, length, Some, None, Ok, Err, Option, Result, sym, refl, ap, ◌∙◌, inl, inr, ⊎_elim, arith}
-use Rattle.std.proofs.lemmas.Bool.{eq-eqb, ne_eqb, cases_eq, lt-ltb, or_from, and_left, and_right, true≢false}
+use Rattle.std.proofs.Common.{◌≡◌, ℕ, zero, suc, ◌<◌, true, false, cond, ◌&&◌, eqb, ltb, List, length, Some, None, Ok, Err, Option, Result, sym, refl, ap, ◌∙◌, inl, inr, ⊎_elim}
+use Rattle.std.proofs.lemmas.Bool.{ne_eqb, cases_eq, lt-ltb, or_from, and_left, and_right}
 use Rattle.device.specs.declared.faults.Fault.{Fault}
-use Rattle.device.specs.declared.faults.Refusal.TheVariants.{PowerOff, Unsettled}
+use Rattle.device.specs.declared.faults.Refusal.TheVariants.{Unsettled}
 use Rattle.device.specs.Cells.{Cell, reads, is_unsettled}
-use Rattle.device.specs.Cells.Cell.{settled, unsettled}
+use Rattle.device.specs.Cells.Cell.{settled}
 use Rattle.device.specs.Faults.{chip_fault}
 use Rattle.device.specs.Calls.{Call, Served, Halted}
-use Rattle.device.specs.Chips.{Note, State, Pages, page_count, block_of, Programs, program_refusal, program_at, programmed, Erases, erase_refusal, erased_block, unsettled_in, Syncs, sync_refusal, synced}
-use Rattle.device.specs.Chips.State.{blank}
+use Rattle.device.specs.Chips.{Note, State, Pages, page_count, block_of, Programs, program_refusal, programmed, Erases, erase_refusal, erased_block, unsettled_in, Syncs, synced}
 use Rattle.device.proofs.Settling.{in_order_none, early_settled}
 use Rattle.recovery.specs.Looking.{shown}
 use Rattle.journal.specs.Steps.{Fails}
-
--- a settled cell is what it reads
-pub settled_cell : (c : Cell State) → is_unsettled c ≡ false → c ≡ settled (reads c)
-settled_cell (settled s) h = refl
-settled_cell (unsettled was s) h = absurd (true≢false h)
+use Rattle.journal.proofs.Settledness.{settled_reads, call_lost}
 
 -- The conditions of the calls.
 
@@ -34,32 +29,16 @@ erase_allowed m b on inside free =
     in_order_none m.on _ true (ltb b m.size) (chip_fault b) _ on refl (lt-ltb b m.size inside)
     ∙ ap (λ u. cond u (Some (chip_fault b Unsettled)) None) (settled_block m.cell b (page_count m) free)
 
-pub program_allowed : (m : Pages) (p len : ℕ) → m.on ≡ true → len ≡ 512 → p < 8 * m.size → m.cell p ≡ settled blank → program_refusal m p len ≡ None
-program_allowed m p len on whole inside free =
-    in_order_none m.on _ (eqb len 512) (ltb p (page_count m)) (chip_fault p) _ on (eq-eqb len 512 whole) (lt-ltb p (page_count m) inside) ∙ ap (program_at p) free
-
 -- What an allowed call that is not served leaves.
-
-allowed_fails : {T : Type 0} (refusal : Option Fault) (p : ℕ) (m n : Pages) (served halted : ℕ → Cell State → Type 0) (ok : T → Type 0) (same : Type 0) (f : Fault)
-    → refusal ≡ None → Call refusal (chip_fault p PowerOff) m served halted ok same (Err f) n → Fails m f n
-allowed_fails refusal p m n served halted ok same f none (_, inl (e, _)) = absurd (never (sym none ∙ e))
-  where
-    never : ◌≡◌ {A = Option Fault} None (Some f) → ⊥
-    never e = grind arith
-allowed_fails refusal p m n served halted ok same f none (_, inr (_, e, k)) = record { lost = (k.power, (p, e)); size = k.size }
 
 pub erase_fails : (m n : Pages) (b : ℕ) (f : Fault) → erase_refusal m b ≡ None → Erases m b (Err f) n → Fails m f n
 erase_fails m n b f none call =
-    allowed_fails (erase_refusal m b) b m n (Served (erased_block m b)) (Halted m (erased_block m b)) (λ (x : Unit {0}). Unit {0}) (Unit {0}) f none call
+    call_lost (erase_refusal m b) b m n (Served (erased_block m b)) (Halted m (erased_block m b)) (λ _. Unit {0}) (Unit {0}) f none call
 
 pub program_fails : (m n : Pages) (p : ℕ) (note : Note) (bytes : List ℕ) (f : Fault) → program_refusal m p (length bytes) ≡ None → Programs m p note bytes (Err f) n → Fails m f n
 program_fails m n p note bytes f none call =
-    allowed_fails (program_refusal m p (length bytes)) p m n (Served (programmed m p note bytes)) (Halted m (programmed m p note bytes)) (λ (x : Unit {0}). Unit {0})
+    call_lost (program_refusal m p (length bytes)) p m n (Served (programmed m p note bytes)) (Halted m (programmed m p note bytes)) (λ _. Unit {0})
     (Unit {0}) f none call
-
-pub sync_fails : (m n : Pages) (f : Fault) → m.on ≡ true → Syncs m (Err f) n → Fails m f n
-sync_fails m n f on call =
-    allowed_fails (sync_refusal m) 0 m n (Served (synced m)) (Halted m (synced m)) (λ (x : Unit {0}). Unit {0}) (Unit {0}) f (rw on) call
 
 -- A settled cell that a call does not want changed.
 call_beside : {T : Type 0} (refusal : Option Fault) (lost : Fault) (m n : Pages) (want : ℕ → Cell State) (ok : T → Type 0) (same : Type 0) (r : Result T Fault)
@@ -68,7 +47,7 @@ call_beside refusal lost m n want ok same (Ok x) (_, _, k) q w u = go (k.cells q
   where
     go : Served want q (n.cell q) → n.cell q ≡ m.cell q
     go (inl e) = e ∙ w
-    go (inr e) = e ∙ ap (λ c. settled (reads c)) w ∙ sym (settled_cell (m.cell q) u)
+    go (inr e) = e ∙ ap (λ c. settled (reads c)) w ∙ sym (settled_reads (m.cell q) u)
 call_beside refusal lost m n want ok same (Err f) (_, inl (_, k)) q w u = ap (λ z. z.cell q) k
 call_beside refusal lost m n want ok same (Err f) (_, inr (_, _, k)) q w u = go (k.cells q)
   where
@@ -84,7 +63,7 @@ pub program_beside : (m n : Pages) (p : ℕ) (note : Note) (bytes : List ℕ) (r
 program_beside m n p note bytes r call q ne u = call_beside _ _ m n (programmed m p note bytes) _ _ r call q (rw (ne_eqb q p ne)) u
 
 pub sync_beside : (m n : Pages) (r : Result (Unit {0}) Fault) → Syncs m r n → (q : ℕ) → is_unsettled (m.cell q) ≡ false → n.cell q ≡ m.cell q
-sync_beside m n r call q u = call_beside _ _ m n (synced m) _ _ r call q (sym (settled_cell (m.cell q) u)) u
+sync_beside m n r call q u = call_beside _ _ m n (synced m) _ _ r call q (sym (settled_reads (m.cell q) u)) u
 
 -- a served sync settles each page as it reads
 pub sync_settles : (m n : Pages) → Syncs m (Ok tt) n → (q : ℕ) → n.cell q ≡ settled (shown m q)

@@ -1,25 +1,28 @@
 -- What a checkpoint leaves, part by part, and what recovery can find wherever power fails in it.
-use Rattle.std.proofs.Common.{◌≡◌, ℕ, ◌+◌, ◌-◌, ◌<◌, ◌≤◌, true, false, ltb, leb, ◌⊎◌, [], length, Ok, Err, sym, refl, ap, ◌∙◌, subst, inl, inr, ⊎_elim, arith}
-use Rattle.std.proofs.lemmas.Bool.{eq-eqb, ne_eqb, lt-ltb, le-ltb, le-leb, ltb-true, leb-true, cases_eq, cases_Bool, and_from, and_parts, and_right}
+use Rattle.std.proofs.Common.{◌≡◌, ℕ, ◌+◌, ◌-◌, ◌<◌, ◌≤◌, true, false, ltb, leb, List, [], length, Ok, Err, sym, refl, ap, ◌∙◌, subst, ap₂, ⊎_elim, arith}
+use Rattle.std.proofs.lemmas.Bool.{eq-eqb, ne_eqb, lt-ltb, le-ltb, le-leb, cases_eq, cases_Bool, and_from, and_right}
 use Rattle.device.specs.declared.faults.Fault.{Fault}
-use Rattle.device.specs.Cells.{reads, is_unsettled}
+use Rattle.device.specs.Cells.{reads}
 use Rattle.device.specs.Cells.Cell.{settled}
 use Rattle.device.specs.Chips.{State, Pages, data_page_at}
 use Rattle.device.specs.Chips.State.{blank}
 use Rattle.layout.specs.declared.areas.Area.{Area}
+use Rattle.layout.specs.declared.records.Record.{Record}
 use Rattle.layout.specs.Geometry.{data_pages, entry_pages, first_page, other_area, entry_page_at, trailer_at, log_page_at}
 use Rattle.layout.specs.Laws.{entry_page, trailer_page}
-use Rattle.table.specs.Tables.{Table, marked_at, ProperTable}
+use Rattle.table.specs.Tables.{Table, ProperTable}
 use Rattle.recovery.specs.Looking.{shown}
 use Rattle.recovery.specs.Recovering.{Backed}
-use Rattle.crash.specs.Crash.{Finds, Holds, HoldsEither, SettledBacked, SettledEntries, BlankFrom}
+use Rattle.crash.specs.Crash.{Holds, SettledBacked, SettledEntries, BlankFrom}
 use Rattle.crash.proofs.Cuts.{first_small}
-use Rattle.crash.proofs.Ways.{settled_way}
 use Rattle.journal.specs.Notes.{Noted, in_area, checkpoint_pages, next_number, checkpointed}
-use Rattle.journal.specs.Points.{Point, point, Left, ReadsAs, Either}
+use Rattle.journal.specs.Points.{point}
 use Rattle.journal.specs.Ready.{Ready}
 use Rattle.journal.specs.Steps.{AllSettled, Lands, Fails, Beside, StillHolds, CommitsAs, cleared, with_entries, with_trailer, TakesOver}
-use Rattle.journal.proofs.Wiping.{settled_cell, fails_then}
+use Rattle.journal.proofs.AreaBlocks.{area_inside}
+use Rattle.journal.proofs.Committing.{CutShort, OldOrNew, few_pages}
+use Rattle.journal.proofs.Leaving.{left_of_holds, left_of_either, left_first}
+use Rattle.journal.proofs.Settledness.{settled_reads, lands_settled, fails_then}
 
 -- Pages by whether they lie in an area
 
@@ -31,12 +34,6 @@ pub data_outside : (area : Area) (i : ℕ) → in_area area (data_page_at i) ≡
 data_outside area i =
     and_right (leb (first_page area) (data_page_at i)) (ltb (data_page_at i) (first_page area + 32))
     (le-ltb (data_page_at i) (first_page area + 32) (omega (arith, first_small area)))
-
--- what a page that lies in an area tells: the offset of it
-area_offset : (area : Area) (p : ℕ) → in_area area p ≡ true → (first_page area ≤ p) × (p < first_page area + 32)
-area_offset area p h =
-    let t = and_parts (leb (first_page area) p) (ltb p (first_page area + 32)) h in
-    (leb-true (first_page area) p t.0, ltb-true p (first_page area + 32) t.1)
 
 -- The pages of the other area once its entries are filled in, and then its trailer.
 module _ (D : ℕ) (small : D ≤ 448) (a : Area) (t : Table) where
@@ -77,31 +74,10 @@ module _ (D : ℕ) (small : D ≤ 448) (a : Area) (t : Table) where
       rest ne =
           ⊎_elim
           (λ (yes : in_area (other_area a) p ≡ true).
-          let at = area_offset (other_area a) p yes in
+          let at = area_inside (other_area a) p yes in
           rw (yes, ne_eqb (p - first) E (λ z. ne (omega (arith, at)))))
           (λ (no : in_area (other_area a) p ≡ false). rw no (out no))
           (cases_Bool (in_area (other_area a) p))
-
--- What recovery can find
-
--- the table that the chip holds, with the data pages that it marks settled
-pub left_held : (D : ℕ) (m : Pages) (area : Area) (n : ℕ) (t : Table) (pages : ℕ → State) (Among : Point → Type 0) → Among (point t pages) → Holds D m area n t
-    → ((i : ℕ) → i < D → marked_at t i ≡ true → m.cell (data_page_at i) ≡ settled (pages (data_page_at i))) → Left D m Among
-left_held D m area n t pages Among here h firm s l =
-    (point t pages, here, (λ i x y. settled_way m.cell s (data_page_at i) (pages (data_page_at i)) l (firm i x y)), (area, n, h s l))
-
--- or one of two
-pub left_either : (D : ℕ) (m : Pages) (area : Area) (n : ℕ) (t : Table) (area' : Area) (n' : ℕ) (u : Table) (pages : ℕ → State)
-    → HoldsEither D m area n t area' n' u → ((i : ℕ) → m.cell (data_page_at i) ≡ settled (pages (data_page_at i))) → Left D m (Either (point t pages) (point u pages))
-left_either D m area n t area' n' u pages h firm s l = go (h s l)
-  where
-    reads_as : (x : Table) → ReadsAs D s (point x pages)
-    reads_as x i _ _ = settled_way m.cell s (data_page_at i) (pages (data_page_at i)) l (firm i)
-
-    go : Finds D s area n t ⊎ Finds D s area' n' u
-        → (x : Point) × Either (point t pages) (point u pages) x × ReadsAs D s x × ((area : Area) × (n : ℕ) × Finds D s area n x.table)
-    go (inl found) = (point t pages, inl refl, reads_as t, (area, n, found))
-    go (inr found) = (point u pages, inr refl, reads_as u, (area', n', found))
 
 -- A chip that holds a table, all settled, with a blank log and nothing staged, is ready.
 pub fresh_ready : (D : ℕ) (m : Pages) (area : Area) (n : ℕ) (t : Table) → m.on ≡ true → 12 ≤ m.size → m.size ≤ 64 → D ≡ data_pages m.size → Holds D m area n t
@@ -126,15 +102,6 @@ fresh_ready D m area n t on enough few large holds small long proper ahead still
   backed = backed;
   blanks = λ i _ _. still (data_page_at i);
 }
-
-pub lands_settled : (m : Pages) (pages : ℕ → State) (m' : Pages) → Lands m pages m' → AllSettled m'
-lands_settled m pages m' h p = ap is_unsettled (h.cells p)
-
-pub lands_shown : (m : Pages) (pages : ℕ → State) (m' : Pages) → Lands m pages m' → (p : ℕ) → shown m' p ≡ pages p
-lands_shown m pages m' h p = ap reads (h.cells p)
-
-pub few_pages : (D : ℕ) (m : Pages) (v : Noted) (t : Table) → Ready D m v t → D ≤ 448
-few_pages D m v t ready = omega (arith, ready.large, ready.few)
 
 pub beside_then : (a : Area) (m n k : Pages) → Beside a m n → Beside a n k → Beside a m k
 beside_then a m n k x y p out = y p out ∙ x p out
@@ -165,24 +132,20 @@ module _ (D : ℕ) (small : D ≤ 448) (a : Area) (t : Table) (m₁ m₂ : Pages
 
 -- A checkpoint of a ready chip with everything settled, part by part: cleared, filled, closed.
 module _ (D : ℕ) (m : Pages) (v : Noted) (still : AllSettled m) where
-  -- power fails: recovery finds the committed table, or the one in memory
-  abbrev CutShort : Pages → Fault → Type 0
-  CutShort m' f = Fails m f m' × ((t : Table) → Ready D m v t → Left D m' (Either (point t (shown m)) (point v.table (shown m))))
-
   -- the data pages are settled as they were
   data_kept : (m' : Pages) → Beside v.area m m' → (i : ℕ) → m'.cell (data_page_at i) ≡ settled (shown m (data_page_at i))
-  data_kept m' beside i = beside (data_page_at i) (data_outside (other_area v.area) i) ∙ settled_cell (m.cell (data_page_at i)) (still (data_page_at i))
+  data_kept m' beside i = beside (data_page_at i) (data_outside (other_area v.area) i) ∙ settled_reads (m.cell (data_page_at i)) (still (data_page_at i))
 
   -- power fails while the table that was committed is the one that the chip holds
-  old_left : (m' : Pages) → Beside v.area m m' → (t : Table) → Holds D m' v.area v.number t → Left D m' (Either (point t (shown m)) (point v.table (shown m)))
+  old_left : (m' : Pages) → Beside v.area m m' → (t : Table) → Holds D m' v.area v.number t → OldOrNew D m v t m'
   old_left m' beside t h =
-      left_held D m' v.area v.number t (shown m) (Either (point t (shown m)) (point v.table (shown m))) (inl refl) h (λ i _ _. data_kept m' beside i)
+      left_first D m' (point t (shown m)) (point v.table (shown m)) (left_of_holds D m' v.area v.number t (shown m) h (λ i _ _. data_kept m' beside i))
 
   module _ (m₁ : Pages) (beside₁ : Beside v.area m m₁) (held : StillHolds v.area m m₁) where
     still_held : (t : Table) → Ready D m v t → Holds D m₁ v.area v.number t
     still_held t ready = held D v.number t (few_pages D m v t ready) ready.holds
 
-    pub clear_failed : (f : Fault) → Fails m f m₁ → CutShort m₁ f
+    pub clear_failed : (f : Fault) → Fails m f m₁ → CutShort D m v f m₁
     clear_failed f fails = (fails, λ t ready. old_left m₁ beside₁ t (still_held t ready))
 
     module _ (one : Lands m (cleared v.area (shown m)) m₁) (m₂ : Pages) (beside₂ : Beside v.area m₁ m₂)
@@ -190,7 +153,7 @@ module _ (D : ℕ) (m : Pages) (v : Noted) (still : AllSettled m) where
       beside : Beside v.area m m₂
       beside = beside_then v.area m m₁ m₂ beside₁ beside₂
 
-      pub fill_failed : (f : Fault) → Fails m₁ f m₂ → CutShort m₂ f
+      pub fill_failed : (f : Fault) → Fails m₁ f m₂ → CutShort D m v f m₂
       fill_failed f fails =
           (fails_then m m₁ m₂ f one.size fails, λ t ready. old_left m₂ beside t (held₂ v.number t (still_held t ready)))
 
@@ -202,15 +165,15 @@ module _ (D : ℕ) (m : Pages) (v : Noted) (still : AllSettled m) where
         data_backed : (t : Table) → Ready D m v t → SettledBacked D m₂ v.table
         data_backed t ready i l marked = let (bytes, e) = ready.backed i l marked in (bytes, data_kept m₂ beside i ∙ ap settled e)
 
-        pub close_failed : (f : Fault) → Fails m₂ f m₃ → TakesOver D v.area n (Err f) m₂ m₃ → CutShort m₃ f
+        pub close_failed : (f : Fault) → Fails m₂ f m₃ → TakesOver D v.area n (Err f) m₂ m₃ → CutShort D m v f m₃
         close_failed f fails over = (
           fails_then m m₁ m₃ f one.size (fails_then m₁ m₂ m₃ f two.size fails),
           λ t ready.
               let few = few_pages D m v t ready in
-              left_either D m₃ v.area v.number t (other_area v.area) n v.table (shown m)
+              left_of_either D m₃ v.area v.number t (other_area v.area) n v.table (shown m)
               (over v.number t v.table (held₂ v.number t (still_held t ready)) ready.small is ready.long ready.proper
               (entries_settled D few v.area v.table m₁ m₂ two) (log_blank D few v.area v.table m₁ m₂ two) (data_backed t ready))
-              (data_kept m₃ all_beside),
+              (λ i _ _. data_kept m₃ all_beside i) (λ i _ _. data_kept m₃ all_beside i),
         )
 
         module _ (three : Lands m₂ (with_trailer D v.area n (shown m₂)) m₃) where
@@ -225,7 +188,7 @@ module _ (D : ℕ) (m : Pages) (v : Noted) (still : AllSettled m) where
               (entries_settled D few v.area v.table m₁ m₂ two) (log_blank D few v.area v.table m₁ m₂ two) (data_backed t ready) in
               fresh_ready D m₃ (other_area v.area) (next_number v.number) v.table three.power (omega (arith, size, ready.enough)) (omega (arith, size, ready.few))
               (ready.large ∙ ap data_pages (sym size)) (subst (λ z. Holds D m₃ (other_area v.area) z v.table) is holds)
-              (omega arith) ready.long ready.proper (log_closed D few v.area v.table m₁ m₂ two n m₃ three) (lands_settled m₂ _ m₃ three)
+              (omega arith) ready.long ready.proper (log_closed D few v.area v.table m₁ m₂ two n m₃ three) (lands_settled m₂ m₃ _ three)
               (λ i l marked. let (bytes, e) = ready.backed i l marked in (bytes, ap reads (data_kept m₃ all_beside i) ∙ e))
 
           closed_lands : D ≤ 448 → Lands m (checkpoint_pages D (other_area v.area) (next_number v.number) v.table (shown m)) m₃
@@ -234,7 +197,7 @@ module _ (D : ℕ) (m : Pages) (v : Noted) (still : AllSettled m) where
             size = size;
             cells = λ p.
                 three.cells p
-                ∙ ap settled (written D few v.area v.table n (shown m) (shown m₁) (shown m₂) p (λ out. lands_shown m _ m₁ one p ∙ rw out) (lands_shown m₁ _ m₂ two p)
+                ∙ ap settled (written D few v.area v.table n (shown m) (shown m₁) (shown m₂) p (λ out. ap reads (one.cells p) ∙ rw out) (ap reads (two.cells p))
                 ∙ ap (λ z. checkpoint_pages D (other_area v.area) z v.table (shown m) p) is);
           }
 
@@ -243,9 +206,9 @@ module _ (D : ℕ) (m : Pages) (v : Noted) (still : AllSettled m) where
           closed few over v' e = (closed_lands few, e, λ t ready. subst (λ z. Ready D m₃ z v.table) (sym e) (closed_ready over t ready))
 
 -- the journal after a checkpoint
-pub noted_closed : (v : Noted) (area : Area) → area ≡ other_area v.area
-    → record { table = v.table; staged = []; area = area; number = next_number v.number; next = 0 } ≡ checkpointed v
-noted_closed v area e = ap noted_in e
+pub noted_closed : (v : Noted) (staged : List Record) (area : Area) → staged ≡ [] → area ≡ other_area v.area
+    → record { table = v.table; staged = staged; area = area; number = next_number v.number; next = 0 } ≡ checkpointed v
+noted_closed v staged area none e = ap₂ noted_in none e
   where
-    noted_in : Area → Noted
-    noted_in z = record { table = v.table; staged = []; area = z; number = next_number v.number; next = 0 }
+    noted_in : List Record → Area → Noted
+    noted_in rs z = record { table = v.table; staged = rs; area = z; number = next_number v.number; next = 0 }

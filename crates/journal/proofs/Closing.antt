@@ -16,8 +16,9 @@ use Rattle.crash.specs.Crash.{Holds, HoldsEither, SettledBacked, SettledEntries,
 use Rattle.crash.proofs.Cuts.{safe_steps, first_small}
 use Rattle.journal.specs.Notes.{in_area, next_number}
 use Rattle.journal.specs.Steps.{AllSettled, Landing, Beside, TakesOver, with_trailer}
-use Rattle.journal.proofs.Allowed.{settled_cell, program_allowed, program_fails, sync_fails, program_beside, sync_beside, sync_settles}
-use Rattle.journal.proofs.Clearing.{area_outside}
+use Rattle.journal.proofs.Allowed.{program_fails, program_beside, sync_beside, sync_settles}
+use Rattle.journal.proofs.AreaBlocks.{area_outside}
+use Rattle.journal.proofs.Settledness.{settled_reads, program_allowed, sync_lost}
 
 -- what the calls leave of the chip
 pub record Closed (D : ℕ) (active : Area) (number : ℕ) (m : Pages) (r : Result (Unit {0}) Fault) (n : Pages) : Type 0 where
@@ -29,7 +30,7 @@ module _ (D : ℕ) (small : D ≤ 448) (active : Area) (number : ℕ) (m : Pages
     (free : shown m (trailer_at D (other_area active)) ≡ blank) (p : ℕ) (note : Note) (bytes : List ℕ) (at : p ≡ trailer_at D (other_area active))
     (noted : note ≡ trailer_note D number) (filled : bytes ≡ trailer_data (other_area active) D) (n : Pages) where
   was_blank : m.cell p ≡ settled blank
-  was_blank = settled_cell (m.cell p) (all p) ∙ ap settled (ap (shown m) at ∙ free)
+  was_blank = settled_reads (m.cell p) (all p) ∙ ap settled (ap (shown m) at ∙ free)
 
   -- the call that the laws speak of, under the number that follows that of the active area
   with_next : (k : ℕ) → number ≡ next_number k → (r : Result (Unit {0}) Fault) → Programs m p note bytes r n
@@ -82,7 +83,7 @@ module _ (D : ℕ) (small : D ≤ 448) (active : Area) (number : ℕ) (m : Pages
           ((safe_steps D small).trailer_committed m n n' active k t u h few long ok entries log backed (with_next k e (Ok tt) call) sync);
     }
     closing_ends (Err f) sync =
-        let lost = sync_fails n n' f call.2.power sync in
+        let lost = sync_lost n n' f call.2.power sync in
         record {
           done = record { lost = lost.lost; size = lost.size ∙ call.2.size };
           others = sync_others (Err f) sync;

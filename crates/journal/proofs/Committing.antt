@@ -1,6 +1,6 @@
 -- A commit step by step: the sync before it, and the next log page with the sync behind it.
-use Rattle.std.proofs.Common.{◌≡◌, ℕ, suc, ◌+◌, ◌-◌, ◌*◌, ◌<◌, ◌≤◌, true, false, eqb, ltb, List, [], ◌∷◌, length, take, Some, Ok, Err, Result, sym, refl, ap, ◌∙◌, subst, arith}
-use Rattle.std.proofs.lemmas.Bool.{eq-eqb, ne_eqb, lt-ltb, le-ltb}
+use Rattle.std.proofs.Common.{◌≡◌, ℕ, suc, ◌+◌, ◌*◌, ◌<◌, ◌≤◌, true, false, eqb, ltb, List, [], ◌∷◌, length, Some, Ok, Err, Result, sym, refl, ap, ◌∙◌, subst, ap₂, arith}
+use Rattle.std.proofs.lemmas.Bool.{eqb-true, ne_eqb, lt-ltb, le-ltb}
 use Rattle.device.specs.declared.faults.Fault.{Fault}
 use Rattle.device.specs.Cells.{reads}
 use Rattle.device.specs.Cells.Cell.{settled}
@@ -30,9 +30,9 @@ OldOrNew D m v t m' = Left D m' (Either (point t (shown m)) (point v.table (show
 abbrev pub CutShort : ℕ → Pages → Noted → Fault → Pages → Type 0
 CutShort D m v f m' = Fails m f m' × ((t : Table) → Ready D m v t → OldOrNew D m v t m')
 
--- nothing staged, and this log page next
-abbrev pub with_next : Noted → ℕ → Noted
-with_next v n = record { table = v.table; staged = []; area = v.area; number = v.number; next = n }
+-- these records staged, and this log page next
+abbrev pub with_next : Noted → List Record → ℕ → Noted
+with_next v staged n = record { table = v.table; staged = staged; area = v.area; number = v.number; next = n }
 
 module _ (D : ℕ) (m : Pages) (v : Noted) (t : Table) (h : Ready D m v t) where
   pub few_pages : D ≤ 448
@@ -157,19 +157,13 @@ module _ (D : ℕ) (m : Pages) (v : Noted) (t : Table) (h : Ready D m v t) where
             blanks = λ i k e. settles (data_page_at i);
           }
 
--- the program of the next log page, by the array in which the records are staged
-pub log_call : (D : ℕ) (m m₁ : Pages) (area : Area) (next p : ℕ) (note : Note) (bytes : List ℕ) (staged : List Record) (count : ℕ) (r : Result (Unit {0}) Fault)
-    → p ≡ log_page_at D area next → note ≡ log_note (take (count - 0) staged) → bytes ≡ log_data (take (count - 0) staged) → Programs m p note bytes r m₁
-    → Programs m (log_page_at D area next) (log_note (take count staged)) (log_data (take count staged)) r m₁
-log_call D m m₁ area next p note bytes staged count r a b c call =
-    let e : count - 0 ≡ count = omega arith in
-    let note_is : note ≡ log_note (take count staged) = b ∙ ap (λ k. log_note (take k staged)) e in
-    let bytes_are : bytes ≡ log_data (take count staged) = c ∙ ap (λ k. log_data (take k staged)) e in
-    subst (λ q. Programs m q (log_note (take count staged)) (log_data (take count staged)) r m₁) a
-    (subst (λ x. Programs m p x (log_data (take count staged)) r m₁) note_is (subst (λ x. Programs m p note x r m₁) bytes_are call))
-
-pub log_whole : (bytes : List ℕ) (staged : List Record) (count : ℕ) → bytes ≡ log_data (take (count - 0) staged) → length bytes ≡ 512 → length (log_data (take count staged)) ≡ 512
-log_whole bytes staged count c whole = let e : count - 0 ≡ count = omega arith in ap (λ k. length (log_data (take k staged))) (sym e) ∙ ap length (sym c) ∙ whole
+-- the program of the next log page, by what was programmed
+pub log_call : (D : ℕ) (m m₁ : Pages) (area : Area) (next p : ℕ) (note : Note) (bytes : List ℕ) (staged : List Record) (r : Result (Unit {0}) Fault)
+    → p ≡ log_page_at D area next → note ≡ log_note staged → bytes ≡ log_data staged → Programs m p note bytes r m₁
+    → Programs m (log_page_at D area next) (log_note staged) (log_data staged) r m₁
+log_call D m m₁ area next p note bytes staged r a b c call =
+    subst (λ q. Programs m q (log_note staged) (log_data staged) r m₁) a
+    (subst (λ x. Programs m p x (log_data staged) r m₁) b (subst (λ x. Programs m p note x r m₁) c call))
 
 -- What a log answers: power failed in the program, or in the sync behind it, or both were served.
 module _ (D : ℕ) (m m₁ : Pages) (v : Noted) (ready : (t : Table) × Ready D m v t) (flat : AllSettled m) (some : 0 < length v.staged) (room : v.next < log_pages D) where
@@ -183,10 +177,10 @@ module _ (D : ℕ) (m m₁ : Pages) (v : Noted) (ready : (t : Table) × Ready D 
     log_unsettled f sync =
         (log_sync_fails D m v ready.0 ready.1 flat some room m₁ m₂ call f sync, (λ t h. log_sync_left D m v t h flat some room m₁ m₂ call f sync))
 
-    pub log_served : Syncs m₁ (Ok tt) m₂ → CommitsAs D m v (logged_pages D v (shown m)) (logged v) (Ok tt) m₂ (with_next v (v.next + 1))
-    log_served sync =
+    pub log_served : (staged : List Record) → staged ≡ [] → Syncs m₁ (Ok tt) m₂ → CommitsAs D m v (logged_pages D v (shown m)) (logged v) (Ok tt) m₂ (with_next v staged (v.next + 1))
+    log_served staged none sync =
         let e : suc v.next ≡ v.next + 1 = omega arith in
-        subst (λ n. CommitsAs D m v (logged_pages D v (shown m)) (logged v) (Ok tt) m₂ (with_next v n)) e
+        subst (λ w. CommitsAs D m v (logged_pages D v (shown m)) (logged v) (Ok tt) m₂ w) (ap₂ (with_next v) (sym none) e)
         (log_lands D m v ready.0 ready.1 flat some room m₁ m₂ call sync, refl, (λ t h. log_ready D m v t h flat some room m₁ m₂ call sync))
 
 -- The sync before a commit failed.
@@ -222,16 +216,14 @@ module _ (D : ℕ) (m m₁ m₂ : Pages) (v v₂ : Noted) (r : Result (Unit {0})
   as_committed pages w a b h =
       subst (λ x. CommitsAs D m v x (committed D v) r m₂ v₂) (sym a) (subst (λ x. CommitsAs D m v pages x r m₂ v₂) (sym b) h)
 
-  pub commit_logged : 0 < length v.staged → v.next < log_pages D → CommitsAs D m₁ v (logged_pages D v (shown m₁)) (logged v) r m₂ v₂ → Commits D m v r m₂ v₂
-  commit_logged some room h =
-      let a : eqb (length v.staged) 0 ≡ false = ne_eqb (length v.staged) 0 (λ e. omega arith) in
+  pub commit_logged : eqb (length v.staged) 0 ≡ false → v.next < log_pages D → CommitsAs D m₁ v (logged_pages D v (shown m₁)) (logged v) r m₂ v₂ → Commits D m v r m₂ v₂
+  commit_logged a room h =
       let b : ltb v.next (log_pages D) ≡ true = lt-ltb v.next (log_pages D) room in
       as_committed (logged_pages D v (shown m)) (logged v) (rw (a, b)) (rw (a, b)) (behind_sync D m m₁ v sync m₂ (logged v) v₂ (logged_pages D v) r h)
 
-  pub commit_checkpointed : 0 < length v.staged → log_pages D ≤ v.next
+  pub commit_checkpointed : eqb (length v.staged) 0 ≡ false → log_pages D ≤ v.next
       → CommitsAs D m₁ v (checkpoint_pages D (other_area v.area) (next_number v.number) v.table (shown m₁)) (checkpointed v) r m₂ v₂ → Commits D m v r m₂ v₂
-  commit_checkpointed some full h =
-      let a : eqb (length v.staged) 0 ≡ false = ne_eqb (length v.staged) 0 (λ e. omega arith) in
+  commit_checkpointed a full h =
       let b : ltb v.next (log_pages D) ≡ false = le-ltb v.next (log_pages D) full in
       let made = checkpoint_pages D (other_area v.area) (next_number v.number) v.table in
       as_committed (made (shown m)) (checkpointed v) (rw (a, b)) (rw (a, b)) (behind_sync D m m₁ v sync m₂ (checkpointed v) v₂ made r h)
@@ -240,8 +232,8 @@ none_staged : (t u : Table) (staged : List Record) → length staged ≡ 0 → r
 none_staged t u [] e h = cc
 none_staged t u (r ∷ rs) e h = absurd (omega arith)
 
-pub commit_nothing : (D : ℕ) (m m₁ : Pages) (v : Noted) → Syncs m (Ok tt) m₁ → length v.staged ≡ 0 → Commits D m v (Ok tt) m₁ v
-commit_nothing D m m₁ v sync none =
-    let a : eqb (length v.staged) 0 ≡ true = eq-eqb (length v.staged) 0 none in
+pub commit_nothing : (D : ℕ) (m m₁ : Pages) (v : Noted) → Syncs m (Ok tt) m₁ → eqb (length v.staged) 0 ≡ true → Commits D m v (Ok tt) m₁ v
+commit_nothing D m m₁ v sync a =
+    let none : length v.staged ≡ 0 = eqb-true (length v.staged) 0 a in
     as_committed D m m₁ m₁ v v (Ok tt) sync (shown m) v (rw a) (rw a)
     (sync_lands m m₁ sync, refl, (λ t h. subst (Ready D m₁ v) (none_staged t v.table v.staged none h.makes) (sync_ready D m v t h m₁ sync)))

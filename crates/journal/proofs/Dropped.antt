@@ -1,5 +1,5 @@
 -- Drops: page by page they make the table without an erase block, and the records of them turn the one table into the other.
-use Rattle.std.proofs.Common.{◌≡◌, ℕ, suc, ◌+◌, ◌<◌, ◌≤◌, Bool, true, false, cond, ◌&&◌, ◌⊎◌, List, [], ◌∷◌, ◌++◌, length, take, drop, set, Some, None, sym, refl, ap, ◌∙◌, subst, ap₂, inl, inr, ⊎_elim, arith}
+use Rattle.std.proofs.Common.{◌≡◌, ℕ, suc, ◌+◌, ◌<◌, ◌≤◌, Bool, true, false, cond, ◌&&◌, List, [], ◌∷◌, ◌++◌, length, take, drop, set, Some, None, sym, refl, ap, ◌∙◌, subst, ap₂, ⊎_elim, arith}
 use Rattle.std.proofs.lemmas.List.{append-nil, append_assoc, length-append, length-take-le, take_all, take_more, drop_all, drop_more, get_or_at, set_at, set-get_or}
 use Rattle.std.proofs.lemmas.Bool.{cases_Bool, cond-true, cond-false, true≢false}
 use Rattle.layout.specs.declared.entries.Entry.{Entry}
@@ -20,22 +20,18 @@ use Rattle.journal.specs.Drops.{in_block, drops_from, spared_from, spared, dropp
 marked_holds : (t : Table) (i : ℕ) → marked_at t i ≡ true → holds (entry_at t i).address.0 (entry_at t i) ≡ true
 marked_holds t i h = holds_from (entry_at t i).address.0 (entry_at t i) h refl
 
-marked_either : (m : Mark) → (m ≡ Clean) ⊎ (m ≡ Dirty) → has_mark m ≡ true
-marked_either m (inl e) = ap has_mark e
-marked_either m (inr e) = ap has_mark e
-
 pub drop_applies : (t : Table) (i : ℕ) → marked_at t i ≡ true → apply t (Drop (entry_at t i).address) ≡ Some (without t (entry_at t i).address.0)
 drop_applies t i h = cond-true (held t (entry_at t i).address.0) (Some (without t (entry_at t i).address.0)) None (held_at t (entry_at t i).address.0 i (marked_holds t i h))
 
-pub droppable : (t : Table) (i : ℕ) (e : Entry) → e ≡ entry_at t i → (e.mark ≡ Clean) ⊎ (e.mark ≡ Dirty) → apply t (Drop e.address) ≡ Some (without t e.address.0)
+pub droppable : (t : Table) (i : ℕ) (e : Entry) → e ≡ entry_at t i → has_mark e.mark ≡ true → apply t (Drop e.address) ≡ Some (without t e.address.0)
 droppable t i e is h =
-    let marked : marked_at t i ≡ true = ap (λ x. has_mark x.mark) (sym is) ∙ marked_either e.mark h in
+    let marked : marked_at t i ≡ true = ap (λ x. has_mark x.mark) (sym is) ∙ h in
     subst (λ x. apply t (Drop x.address) ≡ Some (without t x.address.0)) (sym is) (drop_applies t i marked)
 
-pub page_staged : (v w : Noted) (i : ℕ) (e : Entry) → e ≡ entry_at v.table i → (e.mark ≡ Clean) ⊎ (e.mark ≡ Dirty)
+pub page_staged : (v w : Noted) (i : ℕ) (e : Entry) → e ≡ entry_at v.table i → has_mark e.mark ≡ true
     → w ≡ staging v (without v.table e.address.0) (Drop e.address) → w ≡ dropping_page i v
 page_staged v w i e is h after =
-    let marked : marked_at v.table i ≡ true = ap (λ x. has_mark x.mark) (sym is) ∙ marked_either e.mark h in
+    let marked : marked_at v.table i ≡ true = ap (λ x. has_mark x.mark) (sym is) ∙ h in
     after
     ∙ ap (λ x. staging v (without v.table x.address.0) (Drop x.address)) is
     ∙ sym (cond-true (marked_at v.table i) (staging v (without v.table (entry_at v.table i).address.0) (Drop (entry_at v.table i).address)) v marked)

@@ -17,8 +17,9 @@ use Rattle.crash.specs.Crash.{Holds}
 use Rattle.crash.proofs.Cuts.{safe_steps, first_small}
 use Rattle.journal.specs.Notes.{in_area}
 use Rattle.journal.specs.Steps.{AllSettled, Landing, Beside, with_entries}
-use Rattle.journal.proofs.Allowed.{settled_cell, program_allowed, program_fails, sync_fails, program_beside, sync_beside, sync_settles}
-use Rattle.journal.proofs.Clearing.{area_inside, area_outside}
+use Rattle.journal.proofs.Allowed.{program_fails, program_beside, sync_beside, sync_settles}
+use Rattle.journal.proofs.AreaBlocks.{area_inside, area_outside}
+use Rattle.journal.proofs.Settledness.{settled_reads, program_allowed, sync_lost}
 
 -- what the chip holds in the active area for D data pages, it still holds
 abbrev Keeps : ℕ → Area → Pages → Pages → Type 0
@@ -59,7 +60,7 @@ module _ (D : ℕ) (small : D ≤ 448) (active : Area) (t : Table) (m : Pages) (
     module _ (few : j < entry_pages D) (large : 12 ≤ m.size) (p : ℕ) (note : Note) (bytes : List ℕ) (at : p ≡ entry_page_at (other_area active) j) (noted : note ≡ entry_note j)
         (filled : bytes ≡ entry_data t j) (whole : length bytes ≡ 512) (n' : Pages) where
       was_blank : n.cell p ≡ settled blank
-      was_blank = c.rest p (λ x y. omega arith) ∙ settled_cell (m.cell p) (all p) ∙ ap settled (free p inside)
+      was_blank = c.rest p (λ x y. omega arith) ∙ settled_reads (m.cell p) (all p) ∙ ap settled (free p inside)
         where
           inside : in_area (other_area active) p ≡ true
           inside = ⊎_elim (λ i. i) (λ o. absurd (area_outside (other_area active) p o (omega arith) (omega arith))) (cases_Bool (in_area (other_area active) p))
@@ -128,7 +129,7 @@ module _ (D : ℕ) (small : D ≤ 448) (active : Area) (t : Table) (m : Pages) (
       held = sync_held (Ok tt) call;
     }
     filling_ends (Err f) call =
-        let lost = sync_fails n n' f c.power call in
+        let lost = sync_lost n n' f c.power call in
         record {
           done = record { lost = lost.lost; size = lost.size ∙ c.size };
           others = sync_others (Err f) call;

@@ -3,6 +3,7 @@ use Rattle.std.proofs.Common.{◌≡◌, ℕ, ◌+◌, ◌<◌, ◌≤◌, true,
 use lib.ListN.{length-replicate}
 use Rattle.std.proofs.lemmas.List.{get_or_past, get_or-replicate}
 use Rattle.std.proofs.lemmas.Bool.{le-ltb, cases_lt, and_right, and_parts, ltb-true, true≢false}
+use Rattle.device.specs.Cells.{reads}
 use Rattle.device.specs.Cells.Cell.{settled}
 use Rattle.device.specs.Chips.{Pages}
 use Rattle.device.specs.Chips.State.{blank}
@@ -16,7 +17,8 @@ use Rattle.crash.proofs.Cuts.{safe_steps}
 use Rattle.journal.specs.Notes.{Noted, in_area, formed}
 use Rattle.journal.specs.Ready.{Ready}
 use Rattle.journal.specs.Steps.{AllBlank, Formed, Lands, with_entries, with_trailer}
-use Rattle.journal.proofs.Checkpointing.{written, outside_there, lands_settled, lands_shown, fresh_ready, entries_closed, log_closed, trailer_closed, elsewhere_closed}
+use Rattle.journal.proofs.Checkpointing.{written, outside_there, fresh_ready, entries_closed, log_closed, trailer_closed, elsewhere_closed}
+use Rattle.journal.proofs.Settledness.{lands_settled}
 
 -- The empty table
 
@@ -59,7 +61,7 @@ module _ (D : ℕ) (m m₁ m₂ m₃ : Pages) (enough : 12 ≤ m.size) (few : m.
   other_blank : m₃.cell (trailer_at D Two) ≡ settled blank
   other_blank =
       elsewhere_closed D small Two (empty_table D) m₁ m₂ two 0 m₃ three (trailer_at D Two) (λ e. omega arith)
-      ∙ ap settled (lands_shown m₁ _ m₂ two (trailer_at D Two)
+      ∙ ap settled (ap reads (two.cells (trailer_at D Two))
       ∙ outside_there D small Two (empty_table D) (shown m₁) (trailer_at D Two) (past_first (trailer_at D Two) (omega arith))
       ∙ wiped.blanks (trailer_at D Two) (omega arith))
 
@@ -72,17 +74,17 @@ module _ (D : ℕ) (m m₁ m₂ m₃ : Pages) (enough : 12 ≤ m.size) (few : m.
   ready : Ready D m₃ (formed D) (empty_table D)
   ready =
       fresh_ready D m₃ One 0 (empty_table D) three.power (omega (arith, size)) (omega (arith, size)) (large ∙ ap data_pages (sym size)) holds (omega arith)
-      (length-replicate D empty) (empty_proper D) (log_closed D small Two (empty_table D) m₁ m₂ two 0 m₃ three) (lands_settled m₂ _ m₃ three)
+      (length-replicate D empty) (empty_proper D) (log_closed D small Two (empty_table D) m₁ m₂ two 0 m₃ three) (lands_settled m₂ m₃ _ three)
       (λ i _ marked. absurd (none_marked D i marked))
 
   pub all_formed : (v : Noted) → v ≡ formed D → Formed D m m₃ v
   all_formed v e = record {
     power = three.power;
     size = size;
-    settled_all = lands_settled m₂ _ m₃ three;
+    settled_all = lands_settled m₂ m₃ _ three;
     cells = λ p l.
-        lands_shown m₂ _ m₃ three p
-        ∙ written D small Two (empty_table D) 0 (λ q. blank) (shown m₁) (shown m₂) p (λ _. wiped.blanks p l) (lands_shown m₁ _ m₂ two p);
+        ap reads (three.cells p)
+        ∙ written D small Two (empty_table D) 0 (λ q. blank) (shown m₁) (shown m₂) p (λ _. wiped.blanks p l) (ap reads (two.cells p));
     noted = e;
     ready = subst (λ z. Ready D m₃ z z.table) (sym e) ready;
   }

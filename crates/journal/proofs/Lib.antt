@@ -1,14 +1,13 @@
 pub mod Allowed
+pub mod AreaBlocks
 pub mod Checkpointing
-pub mod Clearing
 pub mod Closing
 pub mod Committing
 pub mod Dropped
 pub mod Filling
 pub mod Formed
 pub mod Leaving
-pub mod Noting
+pub mod Rows
 pub mod Settledness
 pub mod Spared
 pub mod Turning
-pub mod Wiping

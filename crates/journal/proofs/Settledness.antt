@@ -28,6 +28,9 @@ lands_settled m m' pages h p = ap is_unsettled (h.cells p)
 pub lands_shown : (m m' : Pages) (pages : ℕ → State) → Lands m pages m' → shown m' ≡ pages
 lands_shown m m' pages h = fun_ext (λ p. ap reads (h.cells p))
 
+pub fails_then : (m n k : Pages) (f : Fault) → n.size ≡ m.size → Fails n f k → Fails m f k
+fails_then m n k f e h = record { lost = h.lost; size = h.size ∙ e }
+
 -- Of a call that is not refused, a fault is that of power failing.
 pub call_lost : (refusal : Option Fault) (p : ℕ) (m n : Pages) (served halted : ℕ → Cell State → Type 0) (ok : Unit {0} → Type 0) (same : Type 0) (f : Fault)
     → refusal ≡ None → Call refusal (chip_fault p PowerOff) m served halted ok same (Err f) n → Fails m f n

@@ -1,5 +1,5 @@
 -- What the journal keeps in memory, and what a commit makes of it and of the chip's pages.
-use Rattle.std.specs.Prelude.{ℕ, suc, ◌+◌, ◌-◌, ◌%◌, Bool, cond, ◌&&◌, List, [], ◌∷◌, ◌++◌, length, take, ◌==◌, nat_le, nat_lt}
+use Rattle.std.specs.Prelude.{◌≡◌, ℕ, suc, ◌+◌, ◌-◌, ◌%◌, Bool, cond, ◌&&◌, List, [], ◌∷◌, ◌++◌, length, Some, ◌==◌, nat_le, nat_lt}
 use Rattle.device.specs.Chips.{State}
 use Rattle.device.specs.Chips.State.{blank}
 use Rattle.layout.specs.declared.areas.Area.{Area}
@@ -7,7 +7,7 @@ use Rattle.layout.specs.declared.areas.Area.TheVariants.{One}
 use Rattle.layout.specs.declared.records.Record.{Record}
 use Rattle.layout.specs.Geometry.{data_pages, entry_pages, log_pages, first_page, other_area, log_page_at}
 use Rattle.layout.specs.Laws.{entry_page, trailer_page, log_page}
-use Rattle.table.specs.Tables.{Table, empty_table}
+use Rattle.table.specs.Tables.{Table, apply, empty_table}
 use Rattle.table.specs.Views.{table_of}
 use Rattle.journal.specs.declared.memory.Journal.{Journal}
 
@@ -20,7 +20,7 @@ pub record Noted : Type 0 where
   pub next : ℕ
 
 abbrev pub noted : Journal → Noted
-noted j = record { table = table_of j.table; staged = take j.count j.staged; area = j.area; number = j.number; next = j.next }
+noted j = record { table = table_of j.table; staged = j.staged.items; area = j.area; number = j.number; next = j.next }
 
 -- the number of data pages
 abbrev pub pages_of : Journal → ℕ
@@ -29,6 +29,14 @@ pages_of j = data_pages j.geometry.blocks
 -- A record is staged in the moment in which the table changes.
 abbrev pub staging : Noted → Table → Record → Noted
 staging v t r = record { table = t; staged = v.staged ++ (r ∷ []); area = v.area; number = v.number; next = v.next }
+
+-- the record fits the table in memory
+abbrev pub Fits : Noted → Record → Type 0
+Fits v r = (t : Table) × (apply v.table r ≡ Some t)
+
+-- w is v with the record staged
+abbrev pub Stages : Noted → Record → Noted → Type 0
+Stages v r w = (t : Table) → apply v.table r ≡ Some t → w ≡ staging v t r
 
 -- The staged records go to the next log page.
 

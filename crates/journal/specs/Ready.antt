@@ -10,7 +10,8 @@ use Rattle.table.specs.Tables.{Table, marked_at, replayed, ProperTable}
 use Rattle.recovery.specs.Looking.{shown}
 use Rattle.recovery.specs.Recovering.{Backed}
 use Rattle.crash.specs.Crash.{Holds, BlankFrom}
-use Rattle.journal.specs.Notes.{Noted}
+use Rattle.journal.specs.Notes.{Noted, noted, pages_of}
+use Rattle.journal.specs.declared.memory.Journal.{Journal}
 
 -- The chip holds the table t, which was committed last; the staged records turn it into the table in memory. D is the number of data pages.
 pub record Ready (D : ℕ) (m : Pages) (v : Noted) (t : Table) : Type 0 where
@@ -36,3 +37,7 @@ pub record Ready (D : ℕ) (m : Pages) (v : Noted) (t : Table) : Type 0 where
   pub backed : Backed (shown m) v.table D
   -- a blank data page is settled
   pub blanks : (i : ℕ) → i < D → shown m (data_page_at i) ≡ blank → is_unsettled (m.cell (data_page_at i)) ≡ false
+
+-- the chip holds a table that was committed, and the journal what has become of it since
+abbrev pub IsReady : Pages → Journal → Type 0
+IsReady m j = (t : Table) × Ready (pages_of j) m (noted j) t

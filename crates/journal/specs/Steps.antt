@@ -1,9 +1,9 @@
 -- What the journal's calls answer and leave.
-use Rattle.std.specs.Prelude.{◌≡◌, ℕ, ◌-◌, ◌*◌, ◌<◌, ◌≤◌, true, false, cond, length, Ok, Err, Result, ◌==◌, nat_lt}
+use Rattle.std.specs.Prelude.{◌≡◌, ℕ, zero, suc, ◌⊎◌, ◌-◌, ◌*◌, ◌<◌, ◌≤◌, true, false, cond, length, Ok, Err, Result, ◌==◌, nat_lt}
 use Rattle.device.specs.declared.faults.Fault.{Fault}
 use Rattle.device.specs.Cells.{is_unsettled}
 use Rattle.device.specs.Cells.Cell.{settled}
-use Rattle.device.specs.Chips.{State, Pages}
+use Rattle.device.specs.Chips.{State, Pages, Erases, Syncs}
 use Rattle.device.specs.Chips.State.{blank}
 use Rattle.layout.specs.declared.areas.Area.{Area}
 use Rattle.layout.specs.Geometry.{entry_pages, first_page, other_area, trailer_at}
@@ -72,6 +72,17 @@ TakesOver D active number (Ok x) m m' =
 TakesOver D active number (Err f) m m' =
     (n : ℕ) (t u : Table) → Holds D m active n t → n < 3 → number ≡ next_number n → length u ≡ D → ProperTable u → SettledEntries D m (other_area active) u
     → BlankFrom D m (other_area active) 0 → SettledBacked D m u → HoldsEither D m' active n t (other_area active) number u
+
+-- the erase of a block is not served
+abbrev pub Breaks : ℕ → Pages → Result (Unit {0}) Fault → Pages → Type 0
+Breaks b m (Ok x) m' = ⊥
+Breaks b m (Err f) m' = Erases m b (Err f) m'
+
+-- The erases of a row of blocks, each behind the last, and the sync behind them: b is the block that comes next, and k the number of those to go. The
+-- first call that is not served is the last one.
+abbrev pub ErasesRow : (b k : ℕ) → Pages → Result (Unit {0}) Fault → Pages → Type 0
+ErasesRow b zero m r m' = Syncs m r m'
+ErasesRow b (suc k) m r m' = Breaks b m r m' ⊎ ((n : Pages) × Erases m b (Ok tt) n × ErasesRow (suc b) k n r m')
 
 -- Every page of the chip is erased, and everything is settled.
 pub record AllBlank (m m' : Pages) : Type 0 where

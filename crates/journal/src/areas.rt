@@ -1,6 +1,5 @@
 // The parts of a checkpoint: the area that is not active is erased, filled with the entry pages, and closed by its trailer, with a sync behind each.
-ghost use Rattle.std.specs.Prelude.{◌≡◌, ℕ, ◌<◌, ◌≤◌, true, length};
-ghost use Rattle.device.specs.Cells.Cell.{settled};
+ghost use Rattle.std.specs.Prelude.{◌≡◌, ℕ, ◌≤◌, true, length};
 ghost use Rattle.device.specs.Chips.{Syncs};
 ghost use Rattle.device.specs.Chips.State.{blank};
 ghost use Rattle.layout.specs.Geometry.{data_pages, other_area, trailer_at};
@@ -11,32 +10,26 @@ ghost use Rattle.table.specs.Views.{table_of};
 ghost use Rattle.journal.specs.Notes.{in_area};
 ghost use Rattle.journal.specs.Steps.{AllSettled, Landing, Beside, StillHolds, TakesOver, cleared, with_entries, with_trailer};
 
-use device::{Chip, EraseBlock, Fault};
+use crate::erasing::erase_all;
+use device::{Chip, Fault};
 use layout::{Area, Geometry, write_entries, write_trailer};
 use table::MappingTable;
 
 // Erases the four erase blocks of the area that is not active, and settles them.
 pub(crate) fn clear_other<C: Chip>(chip: &mut C, active: Area) -> Result<(), Fault>
-    requires sound { C.Chip.sound chip.old }
     requires on { (C.Chip.meaning chip.old).on ≡ true }
     requires large { 12 ≤ (C.Chip.meaning chip.old).size }
     requires settled { AllSettled (C.Chip.meaning chip.old) }
-    ensures sound { C.Chip.sound chip.new }
     ensures done { Landing (C.Chip.meaning chip.old) (cleared active (shown (C.Chip.meaning chip.old))) result (C.Chip.meaning chip.new) }
     ensures others { Beside active (C.Chip.meaning chip.old) (C.Chip.meaning chip.new) }
     ensures held { StillHolds active (C.Chip.meaning chip.old) (C.Chip.meaning chip.new) }
 {
     let first = active.other().first().erase_block();
-    for k in 0..4 {
-        chip.erase(EraseBlock(first.0 + k))?;
-    }
-    chip.sync()
+    erase_all(chip, first.0..first.0 + 4)
 }
 
-// Settles the entry pages, before the trailer makes them count.
+// Settles the entry pages, before the trailer makes them count. A function of its own, for the same reason as `settle_data`.
 fn settle_entries<C: Chip>(chip: &mut C) -> Result<(), Fault>
-    requires sound { C.Chip.sound chip.old }
-    ensures sound { C.Chip.sound chip.new }
     ensures rules { Syncs (C.Chip.meaning chip.old) result (C.Chip.meaning chip.new) }
 {
     chip.sync() // entries first
@@ -49,13 +42,11 @@ pub(crate) fn fill_other<C: Chip>(
     active: Area,
     table: &MappingTable,
 ) -> Result<(), Fault>
-    requires sound { C.Chip.sound chip.old }
     requires on { (C.Chip.meaning chip.old).on ≡ true }
     requires fits { (C.Chip.meaning chip.old).size ≡ geometry.blocks }
     requires long { length (table_of table.now) ≡ data_pages geometry.blocks }
     requires settled { AllSettled (C.Chip.meaning chip.old) }
     requires free { (p : ℕ) → in_area (other_area active) p ≡ true → shown (C.Chip.meaning chip.old) p ≡ blank }
-    ensures sound { C.Chip.sound chip.new }
     ensures done { Landing (C.Chip.meaning chip.old) (with_entries (data_pages geometry.blocks) active (table_of table.now) (shown (C.Chip.meaning chip.old))) result (C.Chip.meaning chip.new) }
     ensures others { Beside active (C.Chip.meaning chip.old) (C.Chip.meaning chip.new) }
     ensures held { (n : ℕ) (t : Table) → Holds (data_pages geometry.blocks) (C.Chip.meaning chip.old) active n t → Holds (data_pages geometry.blocks) (C.Chip.meaning chip.new) active n t }
@@ -75,12 +66,10 @@ pub(crate) fn close_other<C: Chip>(
     active: Area,
     number: u8,
 ) -> Result<(), Fault>
-    requires sound { C.Chip.sound chip.old }
     requires on { (C.Chip.meaning chip.old).on ≡ true }
     requires fits { (C.Chip.meaning chip.old).size ≡ geometry.blocks }
     requires settled { AllSettled (C.Chip.meaning chip.old) }
     requires free { shown (C.Chip.meaning chip.old) (trailer_at (data_pages geometry.blocks) (other_area active)) ≡ blank }
-    ensures sound { C.Chip.sound chip.new }
     ensures done { Landing (C.Chip.meaning chip.old) (with_trailer (data_pages geometry.blocks) active number (shown (C.Chip.meaning chip.old))) result (C.Chip.meaning chip.new) }
     ensures others { Beside active (C.Chip.meaning chip.old) (C.Chip.meaning chip.new) }
     ensures over { TakesOver (data_pages geometry.blocks) active number result (C.Chip.meaning chip.old) (C.Chip.meaning chip.new) }

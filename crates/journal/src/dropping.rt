@@ -16,9 +16,8 @@ impl Journal {
         ensures after { noted self.new ≡ dropping_page page.0 (noted self.old) }
     {
         let entry = self.table.entry(page);
-        match entry.mark {
-            Mark::Empty => {}
-            Mark::Clean | Mark::Dirty => self.note(Record::Drop(entry.address)),
+        if entry.mark != Mark::Empty {
+            self.stage_for_later(Record::Drop(entry.address));
         }
     }
 
@@ -31,12 +30,10 @@ impl Journal {
     {
         for i in 0..self.table.len() {
             let page = DataPage(i);
-            if page.chip_page().erase_block().0 == block.0 {
+            if page.chip_page().erase_block() == block {
                 self.drop_page(page);
             }
         }
-        CommitOwed {
-            records: self.count,
-        }
+        CommitOwed(())
     }
 }

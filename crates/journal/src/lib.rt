@@ -4,6 +4,7 @@
 mod areas;
 mod commits;
 mod dropping;
+mod erasing;
 mod forming;
 mod memory;
 mod staging;

@@ -1,21 +1,16 @@
 // Records are staged in the moment in which the table changes, and committed later.
-ghost use Rattle.std.specs.Prelude.{◌≡◌, ◌<◌, [], length, Some, ◌==◌};
-ghost use Rattle.layout.specs.Records.{ProperRecord};
-ghost use Rattle.recovery.specs.Restoring.{found_of};
-ghost use Rattle.table.specs.Tables.{Table, apply};
+ghost use Rattle.std.specs.Prelude.{◌≡◌, ◌<◌, [], length, ◌==◌};
 ghost use Rattle.table.specs.Views.{table_of};
-ghost use Rattle.journal.specs.Notes.{Noted, noted, pages_of, staging};
+ghost use Rattle.journal.specs.Notes.{noted, Fits, Stages};
 
 use crate::memory::Journal;
-use device::DiskAddress;
+use arrayvec::ArrayVec;
 use layout::{Geometry, Record};
 use recovery::Restored;
 use table::MappingTable;
 
 // What staging a record leaves to do where the call must commit it: only a commit takes it.
-pub struct CommitOwed {
-    pub(crate) records: u8,
-}
+pub struct CommitOwed(pub(crate) ());
 
 impl Journal {
     // The journal that recovery found, with nothing staged.
@@ -32,8 +27,7 @@ impl Journal {
         Journal {
             geometry,
             table,
-            staged: [Record::Drop(DiskAddress(0)); 64],
-            count: 0,
+            staged: ArrayVec::new(),
             area,
             number,
             next,
@@ -58,39 +52,28 @@ impl Journal {
     pub fn is_full(&self) -> bool
         ensures { result ≡ (length (noted self.now).staged == 64) }
     {
-        self.count == 64
+        self.staged.is_full()
     }
 
-    // Does to the table what the record says, and stages the record.
-    pub(crate) fn note(&mut self, record: Record)
+    // Does to the table what the record says, and stages the record: the next commit takes it along.
+    pub fn stage_for_later(&mut self, change: Record)
         requires room { length (noted self.old).staged < 64 }
-        requires fits { (t : Table) × (apply (noted self.old).table «record» ≡ Some t) }
+        requires fits { Fits (noted self.old) change }
         ensures size { self.new.geometry ≡ self.old.geometry }
-        ensures after { (t : Table) → apply (noted self.old).table «record» ≡ Some t → noted self.new ≡ staging (noted self.old) t «record» }
+        ensures after { Stages (noted self.old) change (noted self.new) }
     {
-        let _ = self.table.apply(record);
-        self.staged[self.count as usize] = record;
-        self.count += 1;
+        let _ = self.table.apply(change);
+        self.staged.push(change);
     }
 
-    // Stages a record that the next commit takes along.
-    pub fn stage_for_later(&mut self, record: Record)
+    // The same for a record that the call must commit before it answers.
+    pub fn stage(&mut self, change: Record) -> CommitOwed
         requires room { length (noted self.old).staged < 64 }
-        requires fits { (t : Table) × (apply (noted self.old).table «record» ≡ Some t) }
+        requires fits { Fits (noted self.old) change }
         ensures size { self.new.geometry ≡ self.old.geometry }
-        ensures after { (t : Table) → apply (noted self.old).table «record» ≡ Some t → noted self.new ≡ staging (noted self.old) t «record» }
+        ensures after { Stages (noted self.old) change (noted self.new) }
     {
-        self.note(record);
-    }
-
-    // Stages a record that the call must commit before it answers.
-    pub fn stage(&mut self, record: Record) -> CommitOwed
-        requires room { length (noted self.old).staged < 64 }
-        requires fits { (t : Table) × (apply (noted self.old).table «record» ≡ Some t) }
-        ensures size { self.new.geometry ≡ self.old.geometry }
-        ensures after { (t : Table) → apply (noted self.old).table «record» ≡ Some t → noted self.new ≡ staging (noted self.old) t «record» }
-    {
-        self.note(record);
-        CommitOwed { records: 1 }
+        self.stage_for_later(change);
+        CommitOwed(())
     }
 }

@@ -1,6 +1,3 @@
-pub mod Numbers
-pub mod Recordwise
-pub mod Entrywise
 pub mod Trailerwise
 pub mod Cellwise
 pub mod Partwise

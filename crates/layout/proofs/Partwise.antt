@@ -3,7 +3,7 @@ use Rattle.std.proofs.Common.{◌≡◌, ℕ, zero, suc, ◌+◌, ◌-◌, ◌*�
 use native.Mathlib.Nat.{min-eq_left, min-eq_right}
 use borrow.Rule.Slice.PartMut.{put_mid}
 use Rattle.std.proofs.lemmas.Bool.{cases_lt}
-use Rattle.std.proofs.lemmas.List.{take_all, take_at, drop_at, length-append, length-drop, length-take, length-take-le, take-append-drop}
+use Rattle.std.proofs.lemmas.List.{take_all, take_at, drop_at, length-append, length-drop, length-take, length-take-le}
 
 front_is : {X : Type 0} (ys : List X) (k : ℕ) → k ≡ min 64 (length ys) → take k ys ≡ take 64 ys
 front_is ys k e =
@@ -34,12 +34,6 @@ module _ {X : Type 0} (table : List X) (a e : ℕ) (inside : a ≤ length table)
       let d₂ : length post ≡ length (drop a table) - (e - a) = length-drop (e - a) (drop a table) in
       let total : length (part ++ post) ≡ length table - a = length-append part post ∙ omega arith in
       ap (take 64) cut ∙ sym (front_is (part ++ post) (e - a) (size ∙ ap (min 64) (sym total))) ∙ take_at part post (e - a) l
-
-  -- written over with itself
-  pub part_same : (part : List X) → part ≡ take (e - a) (drop a table) → put_mid a (e - a) table part ≡ table
-  part_same part h =
-      ap (λ z. take a table ++ (z ++ drop (e - a) (drop a table))) h ∙ ap (λ z. take a table ++ z) (take-append-drop (e - a) (drop a table))
-      ∙ take-append-drop a table
 
 -- lists that agree part by part agree so far, and are the same where the parts are all of both
 pub same_front : {X : Type 0} (t u : List X) (n : ℕ) → ((j : ℕ) → j < n → take 64 (drop (64 * j) t) ≡ take 64 (drop (64 * j) u)) → take (64 * n) t ≡ take (64 * n) u

@@ -1,5 +1,5 @@
 -- A checkpoint and a log page determine what they hold.
-use Rattle.std.proofs.Common.{◌≡◌, ℕ, ◌+◌, ◌-◌, ◌*◌, ◌<◌, min, ◌⊎◌, List, [], ◌∷◌, length, drop, sym, refl, ap, ◌∙◌, subst, inl, inr, arith}
+use Rattle.std.proofs.Common.{◌≡◌, ℕ, ◌+◌, ◌-◌, ◌*◌, ◌<◌, min, ◌⊎◌, List, [], ◌∷◌, length, drop, sym, refl, ap, ◌∙◌, subst, inl, inr, arith, rules}
 use Rattle.std.specs.List.{AllByRecursion}
 use Rattle.std.proofs.lemmas.Bool.{cases_order}
 use Rattle.std.proofs.lemmas.List.{length-take, length-drop}
@@ -9,7 +9,6 @@ use Rattle.device.specs.Chips.State.{held}
 use Rattle.layout.specs.declared.areas.Area.{Area}
 use Rattle.layout.specs.declared.entries.Entry.{Entry}
 use Rattle.layout.specs.declared.records.Record.{Record}
-use Rattle.layout.specs.declared.records.Record.TheVariants.{PutClean, PutDirty, Drop, MarkClean}
 use Rattle.layout.specs.declared.trailers.Trailer.{Trailer}
 use Rattle.layout.specs.Geometry.{first_page, entry_pages}
 use Rattle.layout.specs.Entries.{entry_bytes, ProperEntry}
@@ -28,10 +27,7 @@ held_bytes : (m n : Note) (xs ys : List ℕ) → held m xs ≡ held n ys → xs 
 held_bytes m n xs ys e = cc
 
 record_eight : (r : Record) → length (record_bytes r) ≡ 8
-record_eight (PutClean page address) = refl
-record_eight (PutDirty page address) = refl
-record_eight (Drop address) = refl
-record_eight (MarkClean address) = refl
+record_eight r = search rules
 
 -- pages that are the same entry page of two tables as long as each other
 same_entry_page : (t u : List Entry) (j : ℕ) → AllByRecursion ProperEntry t → AllByRecursion ProperEntry u → length t ≡ length u → entry_page t j ≡ entry_page u j

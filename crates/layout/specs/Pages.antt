@@ -1,9 +1,11 @@
 -- The pages of the mapping table, each a note and 512 bytes: entry pages and trailer of a checkpoint, log pages, and the notes of data pages.
-use Rattle.std.specs.Prelude.{◌≡◌, ℕ, ◌+◌, ◌-◌, ◌*◌, ◌<◌, ◌≤◌, Bool, true, false, List, [], ◌∷◌, ◌++◌, length, take, drop, Some, None, Option, ◌≢◌}
+use Rattle.std.specs.Prelude.{◌≡◌, ℕ, ◌+◌, ◌-◌, ◌*◌, ◌<◌, ◌≤◌, List, [], ◌∷◌, ◌++◌, length, take, drop, Some, None, Option, Ok, Err, Result, ◌≢◌}
 use Rattle.std.specs.List.{flat_map, AllByRecursion}
+use Rattle.arrayvec.specs.ArrayVec.{ArrayVec}
 use Rattle.device.specs.Chips.{Note}
 use Rattle.layout.specs.declared.areas.Area.{Area}
 use Rattle.layout.specs.declared.entries.Entry.{Entry}
+use Rattle.layout.specs.declared.notes.Malformed.{Malformed}
 use Rattle.layout.specs.declared.records.Record.{Record}
 use Rattle.layout.specs.declared.trailers.Trailer.{Trailer}
 use Rattle.layout.specs.Bytes.{two_bytes, zeros}
@@ -29,11 +31,11 @@ entry_data table j = cells_page entry_bytes (entry_part table j)
 
 -- Reading entry page j into a table: the page is that of the table as it now is, and the other entries stay; or it is no entry page j of a proper table
 -- of this size, and the table stays.
-abbrev pub EntriesRead : Note → List ℕ → ℕ → List Entry → Bool → List Entry → Type 0
-EntriesRead note page j table true after =
+abbrev pub EntriesRead : Note → List ℕ → ℕ → List Entry → Result (Unit {0}) Malformed → List Entry → Type 0
+EntriesRead note page j table (Ok _) after =
     (note ≡ entry_note j) × (page ≡ entry_data after j) × AllByRecursion ProperEntry (entry_part after j) × (take (64 * j) after ≡ take (64 * j) table)
     × (drop (64 * j + 64) after ≡ drop (64 * j + 64) table)
-EntriesRead note page j table false after =
+EntriesRead note page j table (Err _) after =
     (after ≡ table) × ((t : List Entry) → length t ≡ length table → AllByRecursion ProperEntry (entry_part t j) → note ≡ entry_note j → page ≢ entry_data t j)
 
 -- Trailers: four letters, the area's first chip page, the number of data pages, zeros
@@ -68,12 +70,10 @@ pub record ProperLog (records : List Record) : Type 0 where
   pub few : length records ≤ 64
   pub each : AllByRecursion ProperRecord records
 
--- Reading a log page answers the number of its records, which stand before what the buffer held; or the page is no log page, and the buffer stays.
-abbrev pub LogRead : Note → List ℕ → List Record → Option ℕ → List Record → Type 0
-LogRead note page buf (Some n) after =
-    (n ≡ length (take n after)) × ProperLog (take n after) × (note ≡ log_note (take n after)) × (page ≡ log_data (take n after)) × (drop n after ≡ drop n buf)
-LogRead note page buf None after =
-    (after ≡ buf) × ((records : List Record) → ProperLog records → note ≡ log_note records → page ≢ log_data records)
+-- Reading a log page answers its records, or that the page is no log page.
+abbrev pub LogRead : Note → List ℕ → Option (ArrayVec Record) → Type 0
+LogRead note page (Some records) = ProperLog records.items × (note ≡ log_note records.items) × (page ≡ log_data records.items)
+LogRead note page None = (records : List Record) → ProperLog records → note ≡ log_note records → page ≢ log_data records
 
 -- Data pages
 

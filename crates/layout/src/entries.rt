@@ -1,5 +1,6 @@
 // The entries of the mapping table: for each data page, whether it holds a disk address, and which.
-ghost use Rattle.std.specs.Prelude.{◌≡◌};
+ghost use Rattle.std.specs.Prelude.{◌≡◌, ◌≢◌, MatchResult};
+ghost use Rattle.layout.specs.declared.entries.Mark.{Mark};
 ghost use Rattle.layout.specs.Entries.{mark_number, entry_bytes, empty_entry, ProperEntry, EntryOf};
 ghost use Rattle.layout.specs.Apart.{same_entry};
 ghost use Rattle.std.proofs.Common.{rules};
@@ -7,15 +8,16 @@ ghost use Rattle.std.proofs.Common.{rules};
 use crate::cells::Cell;
 use device::DiskAddress;
 
+// Whether a data page holds a disk address, and if so, whether the disk has the same bytes.
 #[derive(Clone, Copy, PartialEq, Eq, Debug)]
 pub enum Mark {
-    Empty,
-    Clean,
-    Dirty,
+    Empty = 0,
+    Clean = 1,
+    Dirty = 2,
 }
 
 // Without a mark the address is 0.
-#[derive(Clone, Copy)]
+#[derive(Clone, Copy, PartialEq, Eq, Debug)]
 pub struct Entry {
     pub mark: Mark,
     pub address: DiskAddress,
@@ -26,23 +28,47 @@ impl Mark {
     pub fn number(self) -> u8
         ensures { result ≡ mark_number self }
     {
-        match self {
-            Mark::Empty => 0,
-            Mark::Clean => 1,
-            Mark::Dirty => 2,
+        self as u8
+    }
+}
+
+// The mark that is known by this number; other numbers come back.
+impl TryFrom<u8> for Mark {
+    type Error = u8;
+
+    ghost try_from_gives = { λ n r. MatchResult r (λ mark. mark_number mark ≡ n) (λ _. (mark : Mark) → mark_number mark ≢ n) };
+
+    fn try_from(number: u8) -> Result<Mark, u8> {
+        match number {
+            0 => Ok(Mark::Empty),
+            1 => Ok(Mark::Clean),
+            2 => Ok(Mark::Dirty),
+            _ => Err(number),
         }
     }
 }
 
 impl Entry {
     // The entry of a page that holds nothing.
+    pub const EMPTY: Entry = Entry {
+        mark: Mark::Empty,
+        address: DiskAddress(0),
+    };
+
+    // The entry of a page that holds nothing.
     pub fn empty() -> Entry
         ensures { result ≡ empty_entry }
     {
-        Entry {
-            mark: Mark::Empty,
-            address: DiskAddress(0),
-        }
+        Entry::EMPTY
+    }
+}
+
+// The entry of a page that holds nothing.
+impl Default for Entry {
+    ghost is_default = { λ entry. entry ≡ empty_entry };
+
+    fn default() -> Entry {
+        Entry::empty()
     }
 }
 
@@ -75,16 +101,8 @@ impl Cell for Entry {
 fn entry_of(mark: u8, address: DiskAddress) -> Option<Entry>
     ensures { EntryOf mark address.0 result }
 {
-    match mark {
-        0 if address.0 == 0 => Some(Entry::empty()),
-        1 => Some(Entry {
-            mark: Mark::Clean,
-            address,
-        }),
-        2 => Some(Entry {
-            mark: Mark::Dirty,
-            address,
-        }),
-        _ => None,
+    match Mark::try_from(mark).ok()? {
+        Mark::Empty if address != DiskAddress(0) => None,
+        mark => Some(Entry { mark, address }),
     }
 }

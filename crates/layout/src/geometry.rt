@@ -11,14 +11,10 @@ impl Geometry {
     pub fn new(blocks: u32) -> Result<Geometry, Fault>
         ensures { elim result [ Ok g ↦ (geometry_refusal blocks ≡ None) × (g.blocks ≡ blocks) | Err f ↦ geometry_refusal blocks ≡ Some f ] }
     {
-        if 12 <= blocks && blocks <= 64 {
+        if (12..=64).contains(&blocks) {
             Ok(Geometry { blocks })
         } else {
-            Err(Fault {
-                refusal: Refusal::BadGeometry,
-                layer: Layer::Cache,
-                place: 0,
-            })
+            Err(Refusal::BadGeometry.at(Layer::Cache, 0))
         }
     }
 
@@ -40,7 +36,7 @@ impl Geometry {
     pub fn entry_pages(self) -> u8
         ensures { result ≡ entry_pages (data_pages self.blocks) }
     {
-        ((self.data_pages() + 63) / 64) as u8
+        self.data_pages().div_ceil(64) as u8
     }
 
     // The number of log pages in an area.

@@ -2,7 +2,7 @@
 ghost use Rattle.std.specs.Prelude.{◌≡◌, [], ◌∷◌};
 ghost use Rattle.device.specs.declared.places.DataPage.{DataPage};
 ghost use Rattle.device.specs.declared.places.DiskAddress.{DiskAddress};
-ghost use Rattle.layout.specs.declared.records.Record.TheVariants.{PutDirty};
+ghost use Rattle.layout.specs.declared.records.Record.TheVariants.{PutDirty, Drop};
 ghost use Rattle.layout.specs.Records.{record_cell, record_bytes, ProperRecord};
 ghost use Rattle.layout.specs.Apart.{same_record};
 ghost use Rattle.std.proofs.Common.{rules};
@@ -10,7 +10,7 @@ ghost use Rattle.std.proofs.Common.{rules};
 use crate::cells::Cell;
 use device::{DataPage, DiskAddress};
 
-#[derive(Clone, Copy)]
+#[derive(Clone, Copy, PartialEq, Eq, Debug)]
 pub enum Record {
     // the data page holds the address, as the disk has it
     PutClean(DataPage, DiskAddress),
@@ -20,6 +20,24 @@ pub enum Record {
     Drop(DiskAddress),
     // the page that holds the address is no longer newer than the disk
     MarkClean(DiskAddress),
+}
+
+// The numbers of the four kinds of records: constants, since a variant with fields has no number of its own.
+const PUT_CLEAN: u8 = 1;
+
+const PUT_DIRTY: u8 = 2;
+
+const DROP: u8 = 3;
+
+const MARK_CLEAN: u8 = 4;
+
+// What stands in the unused places of a list of fixed room; nobody reads it.
+impl Default for Record {
+    ghost is_default = { λ r. r ≡ Drop (record { 0 = 0 }) };
+
+    fn default() -> Record {
+        Record::Drop(DiskAddress(0))
+    }
 }
 
 impl Cell for Record {
@@ -33,33 +51,27 @@ impl Cell for Record {
 
     fn encode(self) -> [u8; 8] {
         match self {
-            Record::PutClean(page, address) => put(1, page, address),
-            Record::PutDirty(page, address) => put(2, page, address),
-            Record::Drop(address) => {
-                let [a, b, c, d] = address.0.to_be_bytes();
-                [3, 0, 0, 0, a, b, c, d]
-            }
-            Record::MarkClean(address) => {
-                let [a, b, c, d] = address.0.to_be_bytes();
-                [4, 0, 0, 0, a, b, c, d]
-            }
+            Record::PutClean(page, address) => cell_of(PUT_CLEAN, page, address),
+            Record::PutDirty(page, address) => cell_of(PUT_DIRTY, page, address),
+            Record::Drop(address) => cell_of(DROP, DataPage(0), address),
+            Record::MarkClean(address) => cell_of(MARK_CLEAN, DataPage(0), address),
         }
     }
 
     fn decode(from: &[u8]) -> Option<Record> {
         match from {
-            [kind, 0, p, q, a, b, c, d] if *kind == 1 || *kind == 2 => {
+            [kind, 0, p, q, a, b, c, d] if *kind == PUT_CLEAN || *kind == PUT_DIRTY => {
                 let page = DataPage(u16::from_be_bytes([*p, *q]));
                 let address = DiskAddress(u32::from_be_bytes([*a, *b, *c, *d]));
-                if *kind == 1 {
+                if *kind == PUT_CLEAN {
                     Some(Record::PutClean(page, address))
                 } else {
                     Some(Record::PutDirty(page, address))
                 }
             }
-            [kind, 0, 0, 0, a, b, c, d] if *kind == 3 || *kind == 4 => {
+            [kind, 0, 0, 0, a, b, c, d] if *kind == DROP || *kind == MARK_CLEAN => {
                 let address = DiskAddress(u32::from_be_bytes([*a, *b, *c, *d]));
-                if *kind == 3 {
+                if *kind == DROP {
                     Some(Record::Drop(address))
                 } else {
                     Some(Record::MarkClean(address))
@@ -70,7 +82,8 @@ impl Cell for Record {
     }
 }
 
-fn put(kind: u8, page: DataPage, address: DiskAddress) -> [u8; 8]
+// The eight bytes of a record of this kind.
+fn cell_of(kind: u8, page: DataPage, address: DiskAddress) -> [u8; 8]
     ensures { result ≡ record_cell kind page.0 address.0 }
 {
     let [p, q] = page.0.to_be_bytes();

@@ -1,4 +1,4 @@
-// The alarms that are recorded, and the bytes of a page or a block that hold a text.
+// The alarms that are recorded.
 
 // An alarm: its number, which goes into a page's note, and its text.
 pub(super) struct Alarm {
@@ -35,20 +35,3 @@ pub(super) const SIX: Alarm = Alarm {
     number: 6,
     text: "04:31 back door",
 };
-
-// A text as 512 bytes: as much of it as there is room for, and spaces.
-pub(super) fn bytes_of(text: &str) -> [u8; 512] {
-    let mut bytes = [b' '; 512];
-    for (to, from) in bytes.iter_mut().zip(text.bytes()) {
-        *to = from;
-    }
-    bytes
-}
-
-// The text that 512 such bytes hold.
-pub(super) fn text_in(bytes: &[u8]) -> &str {
-    match std::str::from_utf8(bytes) {
-        Ok(text) => text.trim_end(),
-        Err(_) => "no text",
-    }
-}

@@ -1,20 +1,20 @@
 // One chip: the alarms of a night in which power fails.
 use crate::alarms::{FIVE, FOUR, ONE, SIX, THREE, TWO};
 use crate::chip_steps::{ChipStep, take_chip_steps};
-use crate::fates::{CHIP_FRAME, NEW, OLD, TORN, set_fates};
-use crate::lines::refused;
+use bench::{Fate, refused, set_fate};
+use chip_frames::FRAME;
 use device::{ChipPage, EraseBlock};
 use image::ImageChip;
 use std::io;
 
 // What the power cut is to make of the six pages that it finds unsettled.
-const FATES: &[(u8, u8)] = &[
-    (0, OLD),
-    (1, NEW),
-    (2, TORN),
-    (8, OLD),
-    (9, NEW),
-    (10, TORN),
+const FATES: &[(usize, Fate)] = &[
+    (0, Fate::Old),
+    (1, Fate::New),
+    (2, Fate::Torn),
+    (8, Fate::Old),
+    (9, Fate::New),
+    (10, Fate::Torn),
 ];
 
 // Eight programs, erases and syncs are served, and then power fails. After the second power-on it does not.
@@ -103,8 +103,10 @@ const MORNING: &[ChipStep] = &[
 
 // Records, loses power, and records again what was lost.
 pub(super) fn run(rt: &impl Print) -> io::Result<()> {
-    let mut image = [0; 8320];
-    set_fates(&mut image, CHIP_FRAME, FATES);
+    let mut image = [0; 16 * FRAME];
+    for (page, fate) in FATES {
+        set_fate(&mut image, FRAME, *page, *fate);
+    }
     match ImageChip::new(&mut image, FUSES) {
         Ok(mut chip) => {
             take_chip_steps(rt, &mut chip, EVENING)?;

@@ -1,13 +1,13 @@
 // A disk: blocks that are written, and the power cut that finds two of them unsettled.
 use crate::disk_steps::{DiskStep, take_disk_steps};
-use crate::fates::{DISK_FRAME, NEW, OLD, set_fates};
-use crate::lines::refused;
+use bench::{Fate, refused, set_fate};
 use device::DiskAddress;
+use disk_frames::FRAME;
 use image::ImageDisk;
 use std::io;
 
 // What the power cut is to make of the two blocks that it finds unsettled.
-const FATES: &[(u8, u8)] = &[(0, OLD), (1, NEW)];
+const FATES: &[(usize, Fate)] = &[(0, Fate::Old), (1, Fate::New)];
 
 // Six writes and syncs are served, and then power fails. After the second power-on it does not.
 const FUSES: &[u32] = &[6];
@@ -45,8 +45,10 @@ const STEPS: &[DiskStep] = &[
 
 // Writes, loses power, and writes again what was lost.
 pub(super) fn run(rt: &impl Print) -> io::Result<()> {
-    let mut image = [0; 4104];
-    set_fates(&mut image, DISK_FRAME, FATES);
+    let mut image = [0; 4 * FRAME];
+    for (block, fate) in FATES {
+        set_fate(&mut image, FRAME, *block, *fate);
+    }
     match ImageDisk::new(&mut image, FUSES) {
         Ok(mut disk) => take_disk_steps(rt, &mut disk, STEPS),
         Err(unfit) => refused(rt, unfit.fault),

@@ -1,6 +1,6 @@
 // A run of calls on any disk, each printed with its answer.
-use crate::alarms::{bytes_of, text_in};
-use crate::lines::{answered, called, called_at, refused};
+use crate::lines::{COLUMNS, answered};
+use bench::{BLOCK, block_of, refused, text_in};
 use device::{Disk, DiskAddress};
 use std::io;
 
@@ -14,22 +14,16 @@ pub(super) enum DiskStep {
 }
 
 // Writes a text into a block.
-fn write<D: Disk>(rt: &impl Print, disk: &mut D, block: DiskAddress, text: &str) -> io::Result<()>
-    requires { D.Disk.sound disk.old }
-    ensures sound { D.Disk.sound disk.new }
-{
-    called_at(rt, "write", block.0)?;
+fn write<D: Disk>(rt: &impl Print, disk: &mut D, block: DiskAddress, text: &str) -> io::Result<()> {
+    COLUMNS.called_at(rt, "write", block.0)?;
     print!(rt; "{text}: ")?;
-    answered(rt, disk.write(block, &bytes_of(text)))
+    answered(rt, disk.write(block, &block_of(text)))
 }
 
 // Reads a block and prints the text that it holds.
-fn read<D: Disk>(rt: &impl Print, disk: &mut D, block: DiskAddress) -> io::Result<()>
-    requires { D.Disk.sound disk.old }
-    ensures sound { D.Disk.sound disk.new }
-{
-    let mut bytes = [0; 512];
-    called_at(rt, "read", block.0)?;
+fn read<D: Disk>(rt: &impl Print, disk: &mut D, block: DiskAddress) -> io::Result<()> {
+    let mut bytes = [0; BLOCK];
+    COLUMNS.called_at(rt, "read", block.0)?;
     match disk.read(block, &mut bytes) {
         Ok(()) => {
             let text = text_in(&bytes);
@@ -40,19 +34,16 @@ fn read<D: Disk>(rt: &impl Print, disk: &mut D, block: DiskAddress) -> io::Resul
 }
 
 // Takes one step.
-fn take<D: Disk>(rt: &impl Print, disk: &mut D, step: &DiskStep) -> io::Result<()>
-    requires { D.Disk.sound disk.old }
-    ensures sound { D.Disk.sound disk.new }
-{
+fn take<D: Disk>(rt: &impl Print, disk: &mut D, step: &DiskStep) -> io::Result<()> {
     match step {
         DiskStep::Say(words) => println!(rt; "{words}"),
         DiskStep::Write(block, text) => write(rt, disk, *block, text),
         DiskStep::Sync => {
-            called(rt, "sync")?;
+            COLUMNS.called(rt, "sync")?;
             answered(rt, disk.sync())
         }
         DiskStep::PowerOn => {
-            called(rt, "power-on")?;
+            COLUMNS.called(rt, "power-on")?;
             answered(rt, disk.power_on())
         }
         DiskStep::Read(block) => read(rt, disk, *block),
@@ -64,10 +55,7 @@ pub(super) fn take_disk_steps<D: Disk>(
     rt: &impl Print,
     disk: &mut D,
     steps: &[DiskStep],
-) -> io::Result<()>
-    requires { D.Disk.sound disk.old }
-    ensures sound { D.Disk.sound disk.new }
-{
+) -> io::Result<()> {
     for step in steps {
         take(rt, disk, step)?;
     }

@@ -6,7 +6,6 @@ mod chip_night;
 mod chip_steps;
 mod disk_night;
 mod disk_steps;
-mod fates;
 mod lines;
 mod pair_night;
 

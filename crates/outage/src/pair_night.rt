@@ -1,7 +1,8 @@
 // Two chips joined into one: places that run on, and a sync that only one of them serves.
 use crate::alarms::{FIVE, FOUR, SIX};
 use crate::chip_steps::{ChipStep, take_chip_steps};
-use crate::lines::refused;
+use bench::refused;
+use chip_frames::FRAME;
 use device::{Chip, ChipPage};
 use image::ImageChip;
 use pair::ChipPair;
@@ -46,9 +47,7 @@ const STEPS: &[ChipStep] = &[
 ];
 
 // Joins two chips and takes the steps.
-fn join<P: Chip + Drop, Q: Chip + Drop>(rt: &impl Print, first: P, second: Q) -> io::Result<()>
-    requires { (P.Chip.sound first) × (Q.Chip.sound second) }
-{
+fn join<P: Chip + Drop, Q: Chip + Drop>(rt: &impl Print, first: P, second: Q) -> io::Result<()> {
     match ChipPair::new(first, second) {
         Ok(mut pair) => take_chip_steps(rt, &mut pair, STEPS),
         Err(large) => refused(rt, large.fault),
@@ -57,8 +56,9 @@ fn join<P: Chip + Drop, Q: Chip + Drop>(rt: &impl Print, first: P, second: Q) ->
 
 // Records on both chips, loses power in one, and records again what was lost.
 pub(super) fn run(rt: &impl Print) -> io::Result<()> {
-    let mut image = [0; 4160];
-    let mut other = [0; 8320];
+    let mut image = [0; 8 * FRAME];
+    let mut other = [0; 16 * FRAME];
+    // One match over both at once is not covered by the check, since a chip keeps what is known of its image.
     match ImageChip::new(&mut image, FIRST) {
         Ok(first) => match ImageChip::new(&mut other, SECOND) {
             Ok(second) => join(rt, first, second),

@@ -1,6 +1,6 @@
 -- Cells beside each other: what each half's cells do, the cells of the whole do, and so a call on a half is a call on the whole.
 use Rattle.std.proofs.Common.{◌≡◌, ℕ, ◌+◌, ◌-◌, ◌*◌, ◌<◌, ◌≤◌, Bool, true, false, cond, not, eqb, ltb, ◌⊎◌, Some, None, Ok, Err, Option, Result, sym, refl, ap, ◌∙◌, subst, inl, inr, arith}
-use Rattle.std.proofs.lemmas.Bool.{lt-ltb, le-ltb, true≢false}
+use Rattle.std.proofs.lemmas.Bool.{lt-ltb, le-ltb}
 use Rattle.device.specs.declared.faults.Fault.{Fault}
 use Rattle.device.specs.declared.faults.Refusal.TheVariants.{PowerOff}
 use Rattle.device.specs.Cells.{Cell, Becomes, Early}
@@ -50,14 +50,6 @@ module _ (E : Cell State → Cell State → Cell State → Type 0) where
         subst (λ z. E ((join was a b).cell i) (want i) (beside z a'.cell b'.cell i)) (sym (ap (λ z. 8 * z) s)) at;
   }
 
--- A half that was on is on after a call unless power failed in it, and as large as it was.
-pub half_after : {T : Type 0} (H : Option Fault) (k : ℕ) (h h' : Pages) (served halted : ℕ → Cell State → Type 0) (ok : T → Type 0) (same : Type 0)
-    (r : Result T Fault) → h.on ≡ true → Call H (chip_fault k PowerOff) h served halted ok same r h' → (keeps_power r ≡ true → h'.on ≡ true) × (h'.size ≡ h.size)
-half_after H k h h' served halted ok same (Ok x) o (_, _, b) = ((λ _. b.power), b.size)
-half_after H k h h' served halted ok same (Err f) o (_, inl (_, u)) = ((λ _. ap (λ z. z.on) u ∙ o), ap (λ z. z.size) u)
-half_after H k h h' served halted ok same (Err f) o (_, inr (_, l, b)) =
-    ((λ t. absurd (true≢false (sym t ∙ ap (λ z. not (eqb (refusal_number z.refusal) 1)) l))), b.size)
-
 -- A call on a half, at the place k, is one on the whole, at p: the refusal is the half's at that place, and what is left of the half makes the whole.
 module _ {T : Type 0} (R H : Option Fault) (p k : ℕ) (m h h' : Pages) (n : Bool → Pages) (served halted served' halted' : ℕ → Cell State → Type 0) (ok : T → Type 0) (same : Type 0) (moves : R ≡ moved p H) (power : lit H ≡ true) (kept : h' ≡ h → n true ≡ m) (serves : Becomes true h served h' → Becomes true m served' (n true)) (halts : Becomes false h halted h' → Becomes false m halted' (n false)) where
   lifted : (r : Result T Fault) → Call H (chip_fault k PowerOff) h served halted ok same r h'
@@ -70,39 +62,22 @@ module _ {T : Type 0} (R H : Option Fault) (p k : ℕ) (m h h' : Pages) (n : Boo
       let off : keeps_power {T = T} (Err f) ≡ false = ap (λ z. not (eqb (refusal_number z.refusal) 1)) l in
       (s, inr (moves ∙ ap (moved p) e, ap (placed p) l, subst (λ z. Becomes false m halted' (n z)) (sym off) (halts b)))
 
-  pub lifted_to : (r r' : Result T Fault) (n' : Pages) → r' ≡ placed_at p r → n' ≡ n (keeps_power r) → Call H (chip_fault k PowerOff) h served halted ok same r h'
-      → Call R (chip_fault p PowerOff) m served' halted' ok same r' n'
-  lifted_to r r' n' e u c =
-      let x : Call R (chip_fault p PowerOff) m served' halted' ok same r' (n (keeps_power r)) =
-      subst (λ z. Call R (chip_fault p PowerOff) m served' halted' ok same z (n (keeps_power r))) (sym e) (lifted r c) in
-      subst (λ z. Call R (chip_fault p PowerOff) m served' halted' ok same r' z) (sym u) x
-
 -- Calls that leave each cell as wanted or settled early, and on a power failure as before or as wanted.
 module _ {T : Type 0} (on : Bool) (a b : Pages) (R H : Option Fault) (p k : ℕ) (w want : ℕ → Cell State) (ok : T → Type 0) (same : Type 0) (pd : Paired on a b) (o : on ≡ true) (moves : R ≡ moved p H) (power : lit H ≡ true) where
   pub first_call : (a' : Pages) → ((i : ℕ) → want i ≡ beside (page_count a) w b.cell i)
-      → (r r' : Result T Fault) (n : Pages) → r' ≡ placed_at p r → n ≡ join (keeps_power r) a' b
-      → Call H (chip_fault k PowerOff) a (Served w) (Halted a w) ok same r a'
-      → Paired (keeps_power r) a' b × Call R (chip_fault p PowerOff) (join on a b) (Served want) (Halted (join on a b) want) ok same r' n
-  first_call a' ws r r' n e v c = (
-    let t = half_after H k a a' (Served w) (Halted a w) ok same r (pd.first_on o) c in
-        record { first_on = t.0; second_on = λ _. pd.second_on o; small = rw t.1 pd.small },
-    lifted_to R H p k (join on a b) a a' (λ z. join z a' b) (Served w) (Halted a w) (Served want) (Halted (join on a b) want) ok same moves power
-        (λ u. ap (λ z. join true z b) u ∙ ap (λ z. join z a b) (sym o))
-        (λ s. join_becomes (λ x y z. Early y z) true on a b a' b w b.cell want s.size refl ws s.cells (λ i. inl refl))
-        (λ s. join_becomes (λ x y z. (z ≡ x) ⊎ (z ≡ y)) false on a b a' b w b.cell want s.size refl ws s.cells (λ i. inl refl))
-        r r' n e v c,
-  )
+      → (r : Result T Fault) → Call H (chip_fault k PowerOff) a (Served w) (Halted a w) ok same r a'
+      → Call R (chip_fault p PowerOff) (join on a b) (Served want) (Halted (join on a b) want) ok same (placed_at p r) (join (keeps_power r) a' b)
+  first_call a' ws =
+      lifted R H p k (join on a b) a a' (λ z. join z a' b) (Served w) (Halted a w) (Served want) (Halted (join on a b) want) ok same moves power
+      (λ u. ap (λ z. join true z b) u ∙ ap (λ z. join z a b) (sym o))
+      (λ s. join_becomes (λ x y z. Early y z) true on a b a' b w b.cell want s.size refl ws s.cells (λ i. inl refl))
+      (λ s. join_becomes (λ x y z. (z ≡ x) ⊎ (z ≡ y)) false on a b a' b w b.cell want s.size refl ws s.cells (λ i. inl refl))
 
   pub second_call : (b' : Pages) → ((i : ℕ) → want i ≡ beside (page_count a) a.cell w i)
-      → (r r' : Result T Fault) (n : Pages) → r' ≡ placed_at p r → n ≡ join (keeps_power r) a b'
-      → Call H (chip_fault k PowerOff) b (Served w) (Halted b w) ok same r b'
-      → Paired (keeps_power r) a b' × Call R (chip_fault p PowerOff) (join on a b) (Served want) (Halted (join on a b) want) ok same r' n
-  second_call b' ws r r' n e v c = (
-    let t = half_after H k b b' (Served w) (Halted b w) ok same r (pd.second_on o) c in
-        record { first_on = λ _. pd.first_on o; second_on = t.0; small = rw t.1 pd.small },
-    lifted_to R H p k (join on a b) b b' (λ z. join z a b') (Served w) (Halted b w) (Served want) (Halted (join on a b) want) ok same moves power
-        (λ u. ap (λ z. join true a z) u ∙ ap (λ z. join z a b) (sym o))
-        (λ s. join_becomes (λ x y z. Early y z) true on a b a b' a.cell w want refl s.size ws (λ i. inl refl) s.cells)
-        (λ s. join_becomes (λ x y z. (z ≡ x) ⊎ (z ≡ y)) false on a b a b' a.cell w want refl s.size ws (λ i. inl refl) s.cells)
-        r r' n e v c,
-  )
+      → (r : Result T Fault) → Call H (chip_fault k PowerOff) b (Served w) (Halted b w) ok same r b'
+      → Call R (chip_fault p PowerOff) (join on a b) (Served want) (Halted (join on a b) want) ok same (placed_at p r) (join (keeps_power r) a b')
+  second_call b' ws =
+      lifted R H p k (join on a b) b b' (λ z. join z a b') (Served w) (Halted b w) (Served want) (Halted (join on a b) want) ok same moves power
+      (λ u. ap (λ z. join true a z) u ∙ ap (λ z. join z a b) (sym o))
+      (λ s. join_becomes (λ x y z. Early y z) true on a b a b' a.cell w want refl s.size ws (λ i. inl refl) s.cells)
+      (λ s. join_becomes (λ x y z. (z ≡ x) ⊎ (z ≡ y)) false on a b a b' a.cell w want refl s.size ws (λ i. inl refl) s.cells)

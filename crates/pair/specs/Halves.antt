@@ -35,11 +35,11 @@ abbrev pub keeps_power : {T : Type 0} → Result T Fault → Bool
 keeps_power (Ok x) = true
 keeps_power (Err f) = not (refusal_number f.refusal == 1)
 
--- the place p, in the first half below the seam, or in the second behind it
+-- where the place p lies: in the first half below the seam, as its own place, or in the second behind the seam
 abbrev pub PageLies : ℕ → ℕ → Half ChipPage → Type 0
-PageLies seam p First = p < seam
+PageLies seam p (First own) = (p < seam) × (own.0 ≡ p)
 PageLies seam p (Second own) = p ≡ seam + own.0
 
 abbrev pub BlockLies : ℕ → ℕ → Half EraseBlock → Type 0
-BlockLies seam b First = b < seam
+BlockLies seam b (First own) = (b < seam) × (own.0 ≡ b)
 BlockLies seam b (Second own) = b ≡ seam + own.0

@@ -1,7 +1,7 @@
 -- Addresses that are held, and held once, in a list of entries.
-use Rattle.std.proofs.Common.{◌≡◌, ℕ, zero, suc, ◌+◌, ◌<◌, ◌≤◌, Bool, true, false, ◌&&◌, ◌||◌, eqb, ◌⊎◌, [], ◌∷◌, length, take, drop, sym, refl, ap, ◌∙◌, subst, inl, inr, ⊎_elim, arith}
-use Rattle.std.proofs.lemmas.List.{get_or-take, at_drop_more, drop_all}
-use Rattle.std.proofs.lemmas.Bool.{eq-eqb, eqb-true, and_parts, and_from, or_cases, or_parts, or_left, true≢false, cases_eq, cases_Bool}
+use Rattle.std.proofs.Common.{◌≡◌, ℕ, zero, suc, ◌+◌, ◌<◌, true, false, eqb, ◌⊎◌, [], ◌∷◌, length, take, sym, refl, ap, ◌∙◌, subst, inl, inr, ⊎_elim, arith}
+use Rattle.std.proofs.lemmas.List.{get_or-take}
+use Rattle.std.proofs.lemmas.Bool.{eq-eqb, eqb-true, and_parts, and_from, or_cases, or_parts, true≢false, cases_eq}
 use Rattle.layout.specs.declared.entries.Entry.{Entry}
 use Rattle.table.specs.Tables.{Table, empty, entry_at, has_mark, holds, held}
 use Rattle.recovery.specs.Recovering.{DistinctBelow}
@@ -29,7 +29,7 @@ holds_address : (a : ℕ) (e : Entry) → holds a e ≡ true → (has_mark e.mar
 holds_address a e h = let (x, y) = and_parts (has_mark e.mark) (eqb e.address.0 a) h in (x, eqb-true e.address.0 a y)
 
 -- one entry more that clashes with none before it
-pub distinct_more : (t : Table) (j : ℕ) → (has_mark (entry_at t j).mark && held (take j t) (entry_at t j).address.0) ≡ false → DistinctBelow t j → DistinctBelow t (j + 1)
+pub distinct_more : (t : Table) (j : ℕ) → (has_mark (entry_at t j).mark ≡ true → held (take j t) (entry_at t j).address.0 ≡ false) → DistinctBelow t j → DistinctBelow t (j + 1)
 distinct_more t j free inv i k a li lk hi hk =
     ⊎_elim
     (λ (ei : i ≡ j). ⊎_elim
@@ -45,19 +45,12 @@ distinct_more t j free inv i k a li lk hi hk =
     clash : (q : ℕ) → q < j → holds a (entry_at t j) ≡ true → holds a (entry_at t q) ≡ true → ⊥
     clash q l hj hq =
         let (m, e) = holds_address a (entry_at t j) hj in
-        let none : held (take j t) a ≡ false = free_of m e in
+        let none : held (take j t) a ≡ false = subst (λ z. held (take j t) z ≡ false) e (free m) in
         true≢false (sym hq ∙ ap (holds a) (sym (entry_front t j q l)) ∙ held_none (take j t) a none q)
-      where
-        free_of : has_mark (entry_at t j).mark ≡ true → (entry_at t j).address.0 ≡ a → held (take j t) a ≡ false
-        free_of m e = ⊎_elim
-            (λ (x : held (take j t) a ≡ true). absurd (true≢false (sym (and_from (has_mark (entry_at t j).mark) (held (take j t) (entry_at t j).address.0) m (rw e x)) ∙ free)))
-            (λ x. x)
-            (cases_Bool (held (take j t) a))
 
 -- an entry that clashes with one before it
-pub not_distinct : (t : Table) (j : ℕ) → j < length t → (has_mark (entry_at t j).mark && held (take j t) (entry_at t j).address.0) ≡ true → DistinctBelow t (length t) → ⊥
-not_distinct t j l h inv =
-    let (m, x) = and_parts (has_mark (entry_at t j).mark) (held (take j t) (entry_at t j).address.0) h in
+pub not_distinct : (t : Table) (j : ℕ) → j < length t → has_mark (entry_at t j).mark ≡ true → held (take j t) (entry_at t j).address.0 ≡ true → DistinctBelow t (length t) → ⊥
+not_distinct t j l m x inv =
     let (i, li, hi) = held_at (take j t) (entry_at t j).address.0 x in
     let below : i < j = short i li in
     let e : i ≡ j = inv i j (entry_at t j).address.0 (omega arith) l (subst (λ z. holds (entry_at t j).address.0 z ≡ true) (entry_front t j i below) hi)
@@ -66,24 +59,3 @@ not_distinct t j l h inv =
   where
     short : (i : ℕ) → i < length (take j t) → i < j
     short i li = omega (arith, Rattle.std.proofs.lemmas.List.length-take j t)
-
-pub distinct_none : (t : Table) → DistinctBelow t 0
-distinct_none t i j a li lj hi hj = absurd (omega arith)
-
--- A search for an address among entries, by whether what is left of them holds it.
-module _ (xs : Table) (i a : ℕ) (m : Bool) (l : i < length xs) (e : m ≡ has_mark (entry_at xs i).mark) (inv : held (drop i xs) a ≡ held xs a) where
-  held_step : held (drop i xs) a ≡ (holds a (entry_at xs i) || held (drop (i + 1) xs) a)
-  held_step = at_drop_more (λ z. held z a) xs i empty l
-
-  pub held_found : (m && eqb (entry_at xs i).address.0 a) ≡ true → true ≡ held xs a
-  held_found h =
-      let here : holds a (entry_at xs i) ≡ true = ap (λ z. z && eqb (entry_at xs i).address.0 a) (sym e) ∙ h in
-      sym (or_left (holds a (entry_at xs i)) (held (drop (i + 1) xs) a) here) ∙ sym held_step ∙ inv
-
-  pub held_passed : (m && eqb (entry_at xs i).address.0 a) ≡ false → held (drop (i + 1) xs) a ≡ held xs a
-  held_passed h =
-      let here : holds a (entry_at xs i) ≡ false = ap (λ z. z && eqb (entry_at xs i).address.0 a) (sym e) ∙ h in
-      sym (ap (λ z. z || held (drop (i + 1) xs) a) here) ∙ sym held_step ∙ inv
-
-pub held_end : (xs : Table) (i a : ℕ) → length xs ≤ i → held (drop i xs) a ≡ held xs a → false ≡ held xs a
-held_end xs i a l inv = sym (ap (λ z. held z a) (drop_all i xs l)) ∙ inv

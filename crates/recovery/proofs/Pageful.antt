@@ -1,9 +1,9 @@
 -- The entry pages of a checkpoint, read one after another: what a further page adds, and why one that does not fit stops the reading.
-use Rattle.std.proofs.Common.{◌≡◌, ℕ, suc, ◌+◌, ◌-◌, ◌*◌, ◌<◌, ◌≤◌, min, Bool, true, false, ◌⊎◌, List, ◌++◌, length, take, drop, Decides, sym, refl, ap, ◌∙◌, subst, ap₂, inl, inr, ⊎_elim, add-one, arith, take-add}
+use Rattle.std.proofs.Common.{◌≡◌, ℕ, suc, ◌+◌, ◌-◌, ◌*◌, ◌<◌, ◌≤◌, min, true, ◌⊎◌, List, ◌++◌, length, take, drop, Ok, Err, MatchResult, Result, sym, refl, ap, ◌∙◌, subst, ap₂, inl, inr, ⊎_elim, add-one, arith, take-add}
 use mathlib.Core.Path.{fun_ext}
 use Rattle.std.proofs.ByRecursion.{All-take, All-drop, All-append}
 use Rattle.std.proofs.lemmas.List.{length-take, length-drop, get_or-take, get_or_past, drop-take, take-take}
-use Rattle.std.proofs.lemmas.Bool.{cases_eq, cases_lt, true≢false, false≢true}
+use Rattle.std.proofs.lemmas.Bool.{cases_eq, cases_lt, true≢false}
 use Rattle.std.specs.List.{AllByRecursion}
 use Rattle.device.specs.declared.faults.Fault.{Fault}
 use Rattle.device.specs.declared.faults.Refusal.TheVariants.{Breach}
@@ -17,6 +17,7 @@ use Rattle.layout.proofs.Cellwise.{same_cells}
 use Rattle.layout.specs.Apart.{same_entry}
 use Rattle.layout.proofs.Partwise.{same_front}
 use Rattle.table.specs.Tables.{Table, empty, entry_at, holds}
+use Rattle.recovery.specs.declared.misfit.Misfit.{Misfit}
 use Rattle.recovery.specs.Recovering.{cache_fault, DistinctBelow, Entered}
 use Rattle.recovery.specs.Entering.{Taken, EntriesFail}
 use Rattle.recovery.specs.Looking.{shown, Quiet, Lost}
@@ -61,7 +62,7 @@ distinct_front t u n e h i k a li lk hi hk = h i k a li lk (move i li hi) (move 
     move q l x = subst (λ z. holds a z ≡ true) (sym (entry_in_front u n q l) ∙ ap (λ z. entry_at z q) (sym e) ∙ entry_in_front t n q l) x
 
 -- a front that is a list of its own, cut where the table ends
-module _ (u : Table) (n end : ℕ) (is : end ≡ min n (length u)) where
+module _ (u : Table) (n end : ℕ) (is : end ≡ min (length u) n) where
   inside : (a i : ℕ) → i < n → holds a (entry_at u i) ≡ true → i < length (take end u)
   inside a i l h = ⊎_elim
       (λ (x : i < length u). omega (arith, length-take end u))
@@ -80,25 +81,23 @@ module _ (u : Table) (n end : ℕ) (is : end ≡ min n (length u)) where
       move : (q : ℕ) → q < length (take end u) → holds a (entry_at (take end u) q) ≡ true → holds a (entry_at u q) ≡ true
       move q l x = subst (λ z. holds a z ≡ true) (entry_in_front u end q (omega (arith, length-take end u))) x
 
--- a page that was read, by whether it brought an address a second time
-pub taken_read : (page : State) (note : Note) (bytes : List ℕ) (j : ℕ) (t u : Table) (end : ℕ) (r : Bool) → page ≡ held note bytes → length u ≡ length t
-    → end ≡ min (64 * j + 64) (length u) → EntriesRead note bytes j t true u → Decides r (DistinctBelow (take end u) (length (take end u))) → Taken page j t r u
-taken_read page note bytes j t u end true e len is (a, b, c, d, _) (yes_is, no_is) =
-    (e ∙ ap₂ held a b, c, d, len, distinct_cut u (64 * j + 64) end is (yes_is refl))
-taken_read page note bytes j t u end false e len is (a, b, c, d, _) (yes_is, no_is) = λ v lv front pv cv dv.
+-- a page that was read
+pub taken_read : (page : State) (note : Note) (bytes : List ℕ) (j : ℕ) (t u : Table) (end : ℕ) → page ≡ held note bytes → length u ≡ length t
+    → end ≡ min (length u) (64 * j + 64) → EntriesRead note bytes j t (Ok tt) u → DistinctBelow (take end u) (length (take end u)) → Taken page j t (Ok tt) u
+taken_read page note bytes j t u end e len is (a, b, c, d, _) once = (e ∙ ap₂ held a b, c, d, len, distinct_cut u (64 * j + 64) end is once)
+
+-- a page that brought an address a second time
+pub taken_twice : {x : Misfit} (page : State) (note : Note) (bytes : List ℕ) (j : ℕ) (t u : Table) (end : ℕ) → page ≡ held note bytes → length u ≡ length t
+    → end ≡ min (length u) (64 * j + 64) → EntriesRead note bytes j t (Ok tt) u → (DistinctBelow (take end u) (length (take end u)) → ⊥) → Taken page j t (Err x) u
+taken_twice page note bytes j t u end e len is (a, b, c, d, _) twice = λ v lv front pv cv dv.
     let same_page : entry_data v j ≡ entry_data u j = sym (held_bytes note (entry_note j) bytes (entry_data v j) (sym e ∙ pv)) ∙ b in
     let part : entry_part v j ≡ entry_part u j = same_part v u j (lv ∙ sym len) cv c same_page in
     let whole : take (64 * j + 64) v ≡ take (64 * j + 64) u = front_more v u j (front ∙ sym d) part in
-    false≢true (no_is (distinct_uncut u (64 * j + 64) end is (distinct_front v u (64 * j + 64) whole dv)))
-
--- a page that is no entry page
-pub not_read : (page : State) (note : Note) (bytes : List ℕ) (j : ℕ) (t u : Table) → page ≡ held note bytes → EntriesRead note bytes j t false u → Taken page j t false u
-not_read page note bytes j t u e (_, none) v lv front pv cv dv =
-    none v lv cv (held_note note (entry_note j) bytes (entry_data v j) (sym e ∙ pv)) (held_bytes note (entry_note j) bytes (entry_data v j) (sym e ∙ pv))
+    twice (distinct_uncut u (64 * j + 64) end is (distinct_front v u (64 * j + 64) whole dv))
 
 -- One page more.
 module _ (D : ℕ) (s : ℕ → State) (area : Area) (j : ℕ) (t : Table) (h : Entered D s area j t) where
-  pub entered_more : (u : Table) → Taken (s (entry_page_at area j)) j t true u → Entered D s area (suc j) u
+  pub entered_more : (u : Table) → Taken (s (entry_page_at area j)) j t (Ok tt) u → Entered D s area (suc j) u
   entered_more u (page, proper, front, len, distinct) = record {
     long = len ∙ h.long;
     pages = λ i l. ⊎_elim
@@ -119,7 +118,7 @@ module _ (D : ℕ) (s : ℕ → State) (area : Area) (j : ℕ) (t : Table) (h : 
       same_part u t i (k.long ∙ sym h.long) (all_part u i (64 * suc j) (omega arith) k.proper) (all_part t i (64 * j) (omega arith) h.proper)
       (held_bytes (entry_note i) (entry_note i) (entry_data u i) (entry_data t i) (sym (k.pages i (omega arith)) ∙ h.pages i l)))
 
-  pub entered_stuck : (u v : Table) → Taken (s (entry_page_at area j)) j t false u → Entered D s area (suc j) v → ⊥
+  pub entered_stuck : {x : Misfit} (u v : Table) → Taken (s (entry_page_at area j)) j t (Err x) u → Entered D s area (suc j) v → ⊥
   entered_stuck u v none k =
       none v (k.long ∙ sym h.long) (front_of v k) (k.pages j (omega arith)) (all_part v j (64 * suc j) (omega arith) k.proper)
       (subst (DistinctBelow v) next k.distinct)
@@ -127,31 +126,34 @@ module _ (D : ℕ) (s : ℕ → State) (area : Area) (j : ℕ) (t : Table) (h : 
       next : 64 * suc j ≡ 64 * j + 64
       next = omega arith
 
+  -- what was taken of a page, by what is entered then
+  pub page_entered : (u : Table) (r : Result (Unit {0}) Misfit) → Taken (s (entry_page_at area j)) j t r u
+      → MatchResult r (λ _. Entered D s area (suc j) u) (λ _. (v : Table) → Entered D s area (suc j) v → ⊥)
+  page_entered u (Ok x) h = entered_more u h
+  page_entered u (Err x) h = λ v. entered_stuck u v h
+
 -- What holds while the pages are read: m is the chip as the reading began, n as it is now.
-pub record Reading (Sound : Type 0) (D : ℕ) (area : Area) (m n : Pages) (j : ℕ) (t : Table) : Type 0 where
-  pub sound : Sound
+pub record Reading (D : ℕ) (area : Area) (m n : Pages) (j : ℕ) (t : Table) : Type 0 where
   pub quiet : Quiet m n
   pub sofar : Entered D (shown m) area j t
   pub lit : 0 < j → n.on ≡ true
 
-pub reading_none : (Sound : Type 0) (D : ℕ) (area : Area) (m : Pages) (t : Table) → Sound → length t ≡ D → Reading Sound D area m m 0 t
-reading_none Sound D area m t sound long = record {
-  sound = sound;
+pub reading_none : (D : ℕ) (area : Area) (m : Pages) (t : Table) → length t ≡ D → Reading D area m m 0 t
+reading_none D area m t long = record {
   quiet = quiet_none m m refl;
   sofar = record { long = long; pages = λ i l. absurd (omega arith); proper = tt; distinct = λ i k a l _ _ _. absurd (omega arith) };
   lit = λ l. absurd (omega arith);
 }
 
-module _ (Sound : Type 0) (D : ℕ) (area : Area) (m n k : Pages) (j : ℕ) (t : Table) (inv : Reading Sound D area m n j t) where
+module _ (D : ℕ) (area : Area) (m n k : Pages) (j : ℕ) (t : Table) (inv : Reading D area m n j t) where
   same_shown : shown n ≡ shown m
   same_shown = fun_ext (quiet_shown m n inv.quiet)
 
   pub reading_sofar : Entered D (shown n) area j t
   reading_sofar = subst (λ s. Entered D s area j t) (sym same_shown) inv.sofar
 
-  pub reading_more : (Sound' : Type 0) (u : Table) → Sound' → Quiet n k → k.on ≡ true → Entered D (shown n) area (suc j) u → Reading Sound' D area m k (j + 1) u
-  reading_more Sound' u sound quiet on h = record {
-    sound = sound;
+  pub reading_more : (u : Table) → Quiet n k → k.on ≡ true → Entered D (shown n) area (suc j) u → Reading D area m k (j + 1) u
+  reading_more u quiet on h = record {
     quiet = quiet_then m n k inv.quiet quiet;
     sofar = rw add-one (subst (λ s. Entered D s area (suc j) u) same_shown h);
     lit = λ _. on;

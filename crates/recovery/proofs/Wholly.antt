@@ -1,5 +1,5 @@
 -- The stages of recovery, put together.
-use Rattle.std.proofs.Common.{◌≡◌, ℕ, zero, suc, ◌-◌, ◌*◌, ◌<◌, ◌≤◌, true, ◌⊎◌, List, [], ◌∷◌, ◌++◌, length, drop, Some, None, Ok, Err, Option, Result, sym, refl, ap, ◌∙◌, subst, inl, inr, ⊎_elim, arith}
+use Rattle.std.proofs.Common.{◌≡◌, ℕ, zero, suc, ◌*◌, ◌<◌, ◌≤◌, true, ◌⊎◌, List, [], ◌∷◌, ◌++◌, length, drop, Some, None, Ok, Err, Option, Result, sym, refl, ap, ◌∙◌, subst, inl, inr, ⊎_elim, arith}
 use mathlib.Core.Path.{fun_ext}
 use Rattle.std.proofs.lemmas.List.{take_all, get_or_past, length-append, length-drop}
 use Rattle.std.proofs.lemmas.Bool.{cases_lt, true≢false}
@@ -104,8 +104,8 @@ module _ (D : ℕ) (s : ℕ → State) (area : Area) (n : ℕ) (active : Active 
       }
 
 -- an array whose front was written over is as long as it was
-pub whole_array : {X : Type 0} (ys arr : List X) (c : ℕ) → length arr ≡ 448 → length ys ≡ c → c ≤ 448 → length (ys ++ drop (c - 0) arr) ≡ 448
-whole_array ys arr c a b l = omega (arith, length-append ys (drop (c - 0) arr), length-drop (c - 0) arr)
+pub whole_array : {X : Type 0} (ys arr : List X) (c : ℕ) → length arr ≡ 448 → length ys ≡ c → c ≤ 448 → length (ys ++ drop c arr) ≡ 448
+whole_array ys arr c a b l = omega (arith, length-append ys (drop c arr), length-drop c arr)
 
 -- Two stages one after the other: m₀ is the chip at first, m₁ after the first stage.
 pub moved : (m₀ m₁ : Pages) → Quiet m₀ m₁ → shown m₁ ≡ shown m₀

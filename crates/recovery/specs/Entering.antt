@@ -1,5 +1,5 @@
 -- The entry pages of a checkpoint, read one after another.
-use Rattle.std.specs.Prelude.{◌≡◌, ℕ, suc, ◌+◌, ◌*◌, ◌<◌, Bool, true, false, length, take}
+use Rattle.std.specs.Prelude.{◌≡◌, ℕ, suc, ◌+◌, ◌*◌, ◌<◌, length, take, Ok, Err, Result}
 use Rattle.std.specs.List.{AllByRecursion}
 use Rattle.device.specs.declared.faults.Fault.{Fault}
 use Rattle.device.specs.declared.faults.Refusal.TheVariants.{Breach}
@@ -10,14 +10,15 @@ use Rattle.layout.specs.Entries.{ProperEntry}
 use Rattle.layout.specs.Geometry.{entry_pages, entry_page_at}
 use Rattle.layout.specs.Pages.{entry_part, entry_note, entry_data}
 use Rattle.table.specs.Tables.{Table}
+use Rattle.recovery.specs.declared.misfit.Misfit.{Misfit}
 use Rattle.recovery.specs.Recovering.{cache_fault, DistinctBelow, Entered}
 
 -- The page is entry page j of the table u, which is the table t up to there and holds no address twice so far; or it is that of no such table.
-abbrev pub Taken : State → ℕ → Table → Bool → Table → Type 0
-Taken page j t true u =
+abbrev pub Taken : State → ℕ → Table → Result (Unit {0}) Misfit → Table → Type 0
+Taken page j t (Ok x) u =
     (page ≡ held (entry_note j) (entry_data u j)) × AllByRecursion ProperEntry (entry_part u j) × (take (64 * j) u ≡ take (64 * j) t) × (length u ≡ length t)
     × DistinctBelow u (64 * j + 64)
-Taken page j t false u =
+Taken page j t (Err x) u =
     (v : Table) → length v ≡ length t → take (64 * j) v ≡ take (64 * j) t → page ≡ held (entry_note j) (entry_data v j) → AllByRecursion ProperEntry (entry_part v j)
     → DistinctBelow v (64 * j + 64) → ⊥
 

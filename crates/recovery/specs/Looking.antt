@@ -22,7 +22,7 @@ pub record Quiet (m n : Pages) : Type 0 where
 abbrev pub Saw : State → Seen → List ℕ → Type 0
 Saw page Blank after = page ≡ blank
 Saw page Torn after = page ≡ torn
-Saw page (Held kind count address) after = page ≡ held (kind, count, address) after
+Saw page (Held note) after = page ≡ held note after
 
 -- the fault is that of a chip whose power failed, or that was off
 abbrev pub Lost : Fault → Pages → Type 0

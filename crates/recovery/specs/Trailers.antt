@@ -6,6 +6,7 @@ use Rattle.device.specs.Chips.{State}
 use Rattle.layout.specs.declared.areas.Area.{Area}
 use Rattle.layout.specs.declared.areas.Area.TheVariants.{One, Two}
 use Rattle.layout.specs.Geometry.{trailer_at}
+use Rattle.recovery.specs.declared.trailers.ActiveArea.{ActiveArea}
 use Rattle.recovery.specs.Recovering.{cache_fault, Counts, Numbered}
 
 -- the number of an area's trailer, or that none counts there
@@ -13,13 +14,16 @@ abbrev pub TrailerIs : ℕ → (ℕ → State) → Area → Option ℕ → Type 
 TrailerIs D s area (Some n) = Numbered D area (s (trailer_at D area)) n
 TrailerIs D s area None = Counts (s (trailer_at D area)) → ⊥
 
+abbrev pub active_area : Area → ℕ → ActiveArea
+active_area area n = record { area = area; number = n }
+
 -- which area is active, by the numbers of the trailers that count
-abbrev pub Chosen : ℕ → Option ℕ → Option ℕ → Result (Area × ℕ) Fault → Type 0
+abbrev pub Chosen : ℕ → Option ℕ → Option ℕ → Result ActiveArea Fault → Type 0
 Chosen D None None r = r ≡ Err (cache_fault 0 NoCheckpoint)
-Chosen D (Some n) None r = r ≡ Ok (One, n)
-Chosen D None (Some m) r = r ≡ Ok (Two, m)
+Chosen D (Some n) None r = r ≡ Ok (active_area One n)
+Chosen D None (Some m) r = r ≡ Ok (active_area Two m)
 Chosen D (Some n) (Some m) r =
-    ((n ≡ m) × (r ≡ Err (cache_fault (trailer_at D Two) Breach))) ⊎ (((n ≡ (m + 1) % 3) × (r ≡ Ok (One, n))) ⊎ ((m ≡ (n + 1) % 3) × (r ≡ Ok (Two, m))))
+    ((n ≡ m) × (r ≡ Err (cache_fault (trailer_at D Two) Breach))) ⊎ (((n ≡ (m + 1) % 3) × (r ≡ Ok (active_area One n))) ⊎ ((m ≡ (n + 1) % 3) × (r ≡ Ok (active_area Two m))))
 
 -- what a trailer's page says, once it has been looked at
 abbrev pub Judged : ℕ → Area → State → Result (Option ℕ) Fault → Type 0

@@ -6,6 +6,8 @@ mod checkpoint;
 mod data_pages;
 mod log;
 pub mod look;
+mod misfit;
+mod reader;
 mod restored;
 mod trailers;
 mod whole;

@@ -1,5 +1,5 @@
 // The two trailers of a chip, and which area is active.
-ghost use Rattle.std.specs.Prelude.{◌≡◌, ◌<◌, length, IfSome};
+ghost use Rattle.std.specs.Prelude.{◌≡◌, ◌<◌, IfSome};
 ghost use Rattle.device.specs.declared.faults.Refusal.TheVariants.{Breach};
 ghost use Rattle.layout.specs.Geometry.{data_pages, trailer_at};
 ghost use Rattle.recovery.specs.Recovering.{cache_fault, Malformed, Active, Failed};
@@ -7,95 +7,78 @@ ghost use Rattle.device.specs.Chips.{State};
 ghost use Rattle.recovery.specs.Looking.{shown, Quiet, Saw, Stage};
 ghost use Rattle.recovery.specs.Trailers.{TrailerIs, Judged, Chosen};
 
-use crate::look::{Seen, look};
+use crate::look::Seen;
+use crate::reader::Reader;
 use device::{Chip, Fault, Layer, Refusal};
 use layout::{Area, Geometry};
 
-// A fault of the cache's layer.
-pub fn fault(place: u32, refusal: Refusal) -> Fault
-    ensures { result ≡ cache_fault place refusal }
-{
-    Fault {
-        refusal,
-        layer: Layer::Cache,
-        place,
-    }
+// The active area, with the number of its trailer.
+#[derive(Clone, Copy)]
+pub(crate) struct ActiveArea {
+    pub(crate) area: Area,
+    pub(crate) number: u8,
 }
 
 // What a look at the trailer's page of an area says: the number of the trailer, that none counts there, or a breach.
-fn judge(geometry: Geometry, area: Area, seen: Seen, bytes: &[u8]) -> Result<Option<u8>, Fault>
-    requires whole { length bytes.now ≡ 512 }
+fn judge(geometry: Geometry, area: Area, seen: Seen, bytes: &[u8; 512]) -> Result<Option<u8>, Fault>
     ensures { (page : State) → Saw page seen bytes.now → Judged (data_pages geometry.blocks) area page result }
 {
     match seen {
-        Seen::Held(kind, count, number) => {
-            if kind != 2 {
-                return Ok(None);
-            }
-            match layout::read_trailer(geometry, area, (kind, count, number), bytes) {
-                Some(n) => Ok(Some(n)),
-                None => Err(fault(geometry.trailer_page(area).0, Refusal::Breach)),
-            }
+        Seen::Held(note) if note.0 == 2 => {
+            let breach = Refusal::Breach.at(Layer::Cache, geometry.trailer_page(area).0);
+            let number = layout::read_trailer(geometry, area, note, bytes).ok_or(breach)?;
+            Ok(Some(number))
         }
-        Seen::Blank => Ok(None),
-        Seen::Torn => Ok(None),
+        Seen::Held(_) | Seen::Blank | Seen::Torn => Ok(None),
     }
 }
 
-// The number of an area's trailer, if one counts there; a breach if it is not in order.
-fn trailer_of<C: Chip>(
-    chip: &mut C,
-    geometry: Geometry,
-    area: Area,
-    buf: &mut [u8],
-) -> Result<Option<u8>, Fault>
-    requires sound { C.Chip.sound chip.old }
-    requires fits { (C.Chip.meaning chip.old).size ≡ geometry.blocks }
-    requires whole { length buf.old ≡ 512 }
-    ensures sound { C.Chip.sound chip.new }
-    ensures quiet { Quiet (C.Chip.meaning chip.old) (C.Chip.meaning chip.new) }
-    ensures found { Stage (TrailerIs (data_pages geometry.blocks) (shown (C.Chip.meaning chip.old)) area) (λ f. (f ≡ cache_fault (trailer_at (data_pages geometry.blocks) area) Breach) × Malformed (data_pages geometry.blocks) (shown (C.Chip.meaning chip.old)) area) result (C.Chip.meaning chip.new) }
-{
-    let seen = look(chip, geometry.trailer_page(area), buf)?;
-    judge(geometry, area, seen, buf)
-}
-
 // Which area is active, by the numbers of the trailers that count.
-fn choose(geometry: Geometry, one: Option<u8>, two: Option<u8>) -> Result<(Area, u8), Fault>
+fn choose(geometry: Geometry, one: Option<u8>, two: Option<u8>) -> Result<ActiveArea, Fault>
     requires one { IfSome one (λ n. n < 3) }
     requires two { IfSome two (λ n. n < 3) }
     ensures { Chosen (data_pages geometry.blocks) one two result }
 {
     match (one, two) {
-        (None, None) => Err(fault(0, Refusal::NoCheckpoint)),
-        (Some(n), None) => Ok((Area::One, n)),
-        (None, Some(m)) => Ok((Area::Two, m)),
-        (Some(n), Some(m)) => {
-            if n == m {
-                Err(fault(geometry.trailer_page(Area::Two).0, Refusal::Breach))
-            } else if n == (m + 1) % 3 {
-                Ok((Area::One, n))
-            } else {
-                Ok((Area::Two, m))
-            }
+        (None, None) => Err(Refusal::NoCheckpoint.at(Layer::Cache, 0)),
+        (Some(n), Some(m)) if n == m => {
+            Err(Refusal::Breach.at(Layer::Cache, geometry.trailer_page(Area::Two).0))
         }
+        (Some(n), Some(m)) if m == (n + 1) % 3 => Ok(ActiveArea {
+            area: Area::Two,
+            number: m,
+        }),
+        (Some(number), _) => Ok(ActiveArea {
+            area: Area::One,
+            number,
+        }),
+        (None, Some(number)) => Ok(ActiveArea {
+            area: Area::Two,
+            number,
+        }),
     }
 }
 
-// The active area, and its number.
-pub fn active_area<C: Chip>(
-    chip: &mut C,
-    geometry: Geometry,
-    buf: &mut [u8],
-) -> Result<(Area, u8), Fault>
-    requires sound { C.Chip.sound chip.old }
-    requires fits { (C.Chip.meaning chip.old).size ≡ geometry.blocks }
-    requires whole { length buf.old ≡ 512 }
-    ensures sound { C.Chip.sound chip.new }
-    ensures quiet { Quiet (C.Chip.meaning chip.old) (C.Chip.meaning chip.new) }
-    ensures found { Stage (λ a. Active (data_pages geometry.blocks) (shown (C.Chip.meaning chip.old)) a.0 a.1) (Failed (data_pages geometry.blocks) (shown (C.Chip.meaning chip.old))) result (C.Chip.meaning chip.new) }
-{
-    let one = trailer_of(chip, geometry, Area::One, buf)?;
-    let two = trailer_of(chip, geometry, Area::Two, buf)?;
-    choose(geometry, one, two)
+impl<C: Chip> Reader<'_, C> {
+    // The number of an area's trailer, if one counts there; a breach if it is not in order.
+    fn trailer_of(&mut self, area: Area) -> Result<Option<u8>, Fault>
+        ensures same { (self.new.chip.ghost_name ≡ self.old.chip.ghost_name) × (self.new.geometry ≡ self.old.geometry) }
+        ensures quiet { Quiet (C.Chip.meaning self.old.chip.now) (C.Chip.meaning self.new.chip.now) }
+        ensures found { Stage (TrailerIs (data_pages self.old.geometry.blocks) (shown (C.Chip.meaning self.old.chip.now)) area) (λ f. (f ≡ cache_fault (trailer_at (data_pages self.old.geometry.blocks) area) Breach) × Malformed (data_pages self.old.geometry.blocks) (shown (C.Chip.meaning self.old.chip.now)) area) result (C.Chip.meaning self.new.chip.now) }
+    {
+        let geometry = self.geometry;
+        let seen = self.look(geometry.trailer_page(area))?;
+        judge(geometry, area, seen, &self.page)
+    }
+
+    // The active area.
+    pub(crate) fn active_area(&mut self) -> Result<ActiveArea, Fault>
+        ensures same { (self.new.chip.ghost_name ≡ self.old.chip.ghost_name) × (self.new.geometry ≡ self.old.geometry) }
+        ensures quiet { Quiet (C.Chip.meaning self.old.chip.now) (C.Chip.meaning self.new.chip.now) }
+        ensures found { Stage (λ a. Active (data_pages self.old.geometry.blocks) (shown (C.Chip.meaning self.old.chip.now)) a.area a.number) (Failed (data_pages self.old.geometry.blocks) (shown (C.Chip.meaning self.old.chip.now))) result (C.Chip.meaning self.new.chip.now) }
+    {
+        let one = self.trailer_of(Area::One)?;
+        let two = self.trailer_of(Area::Two)?;
+        choose(self.geometry, one, two)
+    }
 }

@@ -1,6 +1,5 @@
 // Rows about data pages: each one that the table marks is held, with kind 4, count 0 and its address.
-use crate::cases::Answer::{Found, Refused};
-use crate::cases::{Case, Marked};
+use crate::cases::{Case, Found, Marked, Refused};
 use crate::frames::{At, BLANK, BYTES, Frame, HELD, TORN};
 use crate::trailer_rows::{FORMED, SECOND};
 use layout::Area::One;
@@ -14,7 +13,7 @@ pub(super) const DATA: &[Case<'static>] = &[
             Frame(0, HELD, (1, 0, 0), &[At(0, 1, 0, 0, 5)]),
             Frame(64, BLANK, (4, 0, 5), BYTES),
         ],
-        Refused(11, 2, 64),
+        Err(Refused(11, 2, 64)),
     ),
     Case(
         12,
@@ -23,7 +22,7 @@ pub(super) const DATA: &[Case<'static>] = &[
             Frame(0, HELD, (1, 0, 0), &[At(31, 2, 0, 0, 5)]),
             Frame(95, BLANK, (4, 0, 5), BYTES),
         ],
-        Refused(11, 2, 95),
+        Err(Refused(11, 2, 95)),
     ),
     Case(
         12,
@@ -32,7 +31,7 @@ pub(super) const DATA: &[Case<'static>] = &[
             Frame(2, HELD, (3, 1, 0), &[At(0, 2, 0, 7, 5)]),
             Frame(71, BLANK, (4, 0, 5), BYTES),
         ],
-        Refused(11, 2, 71),
+        Err(Refused(11, 2, 71)),
     ),
     Case(
         12,
@@ -41,7 +40,7 @@ pub(super) const DATA: &[Case<'static>] = &[
             Frame(0, HELD, (1, 0, 0), &[At(0, 1, 0, 0, 5)]),
             Frame(64, TORN, (4, 0, 5), BYTES),
         ],
-        Refused(11, 2, 64),
+        Err(Refused(11, 2, 64)),
     ),
     Case(
         12,
@@ -50,7 +49,7 @@ pub(super) const DATA: &[Case<'static>] = &[
             Frame(0, HELD, (1, 0, 0), &[At(31, 2, 0, 0, 5)]),
             Frame(95, TORN, (4, 0, 5), BYTES),
         ],
-        Refused(11, 2, 95),
+        Err(Refused(11, 2, 95)),
     ),
     Case(
         12,
@@ -59,7 +58,7 @@ pub(super) const DATA: &[Case<'static>] = &[
             Frame(2, HELD, (3, 1, 0), &[At(0, 2, 0, 7, 5)]),
             Frame(71, TORN, (4, 0, 5), BYTES),
         ],
-        Refused(11, 2, 71),
+        Err(Refused(11, 2, 71)),
     ),
     // another kind
     Case(
@@ -69,7 +68,7 @@ pub(super) const DATA: &[Case<'static>] = &[
             Frame(2, HELD, (3, 1, 0), &[At(0, 2, 0, 7, 5)]),
             Frame(71, HELD, (0, 0, 5), BYTES),
         ],
-        Refused(11, 2, 71),
+        Err(Refused(11, 2, 71)),
     ),
     Case(
         12,
@@ -78,7 +77,7 @@ pub(super) const DATA: &[Case<'static>] = &[
             Frame(2, HELD, (3, 1, 0), &[At(0, 2, 0, 7, 5)]),
             Frame(71, HELD, (3, 0, 5), BYTES),
         ],
-        Refused(11, 2, 71),
+        Err(Refused(11, 2, 71)),
     ),
     Case(
         12,
@@ -87,7 +86,7 @@ pub(super) const DATA: &[Case<'static>] = &[
             Frame(2, HELD, (3, 1, 0), &[At(0, 2, 0, 7, 5)]),
             Frame(71, HELD, (5, 0, 5), BYTES),
         ],
-        Refused(11, 2, 71),
+        Err(Refused(11, 2, 71)),
     ),
     // another count
     Case(
@@ -97,7 +96,7 @@ pub(super) const DATA: &[Case<'static>] = &[
             Frame(2, HELD, (3, 1, 0), &[At(0, 2, 0, 7, 5)]),
             Frame(71, HELD, (4, 1, 5), BYTES),
         ],
-        Refused(11, 2, 71),
+        Err(Refused(11, 2, 71)),
     ),
     Case(
         12,
@@ -106,7 +105,7 @@ pub(super) const DATA: &[Case<'static>] = &[
             Frame(0, HELD, (1, 0, 0), &[At(7, 1, 0, 0, 5)]),
             Frame(71, HELD, (4, 255, 5), BYTES),
         ],
-        Refused(11, 2, 71),
+        Err(Refused(11, 2, 71)),
     ),
     // another address, in each of its bytes
     Case(
@@ -116,7 +115,7 @@ pub(super) const DATA: &[Case<'static>] = &[
             Frame(2, HELD, (3, 1, 0), &[At(0, 2, 0, 7, 5)]),
             Frame(71, HELD, (4, 0, 4), BYTES),
         ],
-        Refused(11, 2, 71),
+        Err(Refused(11, 2, 71)),
     ),
     Case(
         12,
@@ -125,7 +124,7 @@ pub(super) const DATA: &[Case<'static>] = &[
             Frame(2, HELD, (3, 1, 0), &[At(0, 1, 0, 7, 5)]),
             Frame(71, HELD, (4, 0, 261), BYTES),
         ],
-        Refused(11, 2, 71),
+        Err(Refused(11, 2, 71)),
     ),
     Case(
         12,
@@ -134,7 +133,7 @@ pub(super) const DATA: &[Case<'static>] = &[
             Frame(0, HELD, (1, 0, 0), &[At(7, 1, 0, 0, 5)]),
             Frame(71, HELD, (4, 0, 0x0001_0005), BYTES),
         ],
-        Refused(11, 2, 71),
+        Err(Refused(11, 2, 71)),
     ),
     Case(
         12,
@@ -143,7 +142,7 @@ pub(super) const DATA: &[Case<'static>] = &[
             Frame(0, HELD, (1, 0, 0), &[At(7, 2, 0, 0, 5)]),
             Frame(71, HELD, (4, 0, 0x0100_0005), BYTES),
         ],
-        Refused(11, 2, 71),
+        Err(Refused(11, 2, 71)),
     ),
     Case(
         12,
@@ -152,14 +151,14 @@ pub(super) const DATA: &[Case<'static>] = &[
             Frame(0, HELD, (1, 0, 0), &[At(7, 2, 0, 0, 0)]),
             Frame(71, HELD, (4, 0, 4294967295), BYTES),
         ],
-        Refused(11, 2, 71),
+        Err(Refused(11, 2, 71)),
     ),
     // the first of two
     Case(
         12,
         FORMED,
         &[Frame(0, HELD, (1, 0, 0), &[At(3, 1, 0, 0, 5), At(9, 1, 0, 0, 6)])],
-        Refused(11, 2, 67),
+        Err(Refused(11, 2, 67)),
     ),
     Case(
         12,
@@ -168,14 +167,14 @@ pub(super) const DATA: &[Case<'static>] = &[
             Frame(0, HELD, (1, 0, 0), &[At(3, 1, 0, 0, 5), At(9, 1, 0, 0, 6)]),
             Frame(67, HELD, (4, 0, 5), BYTES),
         ],
-        Refused(11, 2, 73),
+        Err(Refused(11, 2, 73)),
     ),
     // in area two the data pages are the same
     Case(
         12,
         SECOND,
         &[Frame(32, HELD, (1, 0, 0), &[At(3, 1, 0, 0, 5)])],
-        Refused(11, 2, 67),
+        Err(Refused(11, 2, 67)),
     ),
     // pages without a mark are not looked at, nor one that the log has emptied
     Case(
@@ -186,7 +185,7 @@ pub(super) const DATA: &[Case<'static>] = &[
             Frame(65, HELD, (9, 9, 9), BYTES),
             Frame(66, HELD, (4, 0, 6), BYTES),
         ],
-        Found(One, 0, 0, &[]),
+        Ok(Found(One, 0, 0, &[])),
     ),
     Case(
         12,
@@ -197,7 +196,7 @@ pub(super) const DATA: &[Case<'static>] = &[
             Frame(64, TORN, (4, 0, 5), BYTES),
             Frame(66, HELD, (4, 0, 6), BYTES),
         ],
-        Found(One, 0, 1, &[Marked(2, 2, 6)]),
+        Ok(Found(One, 0, 1, &[Marked(2, 2, 6)])),
     ),
     // an unsettled data page is old, new or torn after the power cut
     Case(
@@ -207,7 +206,7 @@ pub(super) const DATA: &[Case<'static>] = &[
             Frame(2, HELD, (3, 1, 0), &[At(0, 2, 0, 7, 5)]),
             Frame(71, (3, 0), (4, 0, 5), BYTES),
         ],
-        Refused(11, 2, 71),
+        Err(Refused(11, 2, 71)),
     ),
     Case(
         12,
@@ -216,7 +215,7 @@ pub(super) const DATA: &[Case<'static>] = &[
             Frame(2, HELD, (3, 1, 0), &[At(0, 2, 0, 7, 5)]),
             Frame(71, (3, 1), (4, 0, 5), BYTES),
         ],
-        Found(One, 0, 1, &[Marked(7, 2, 5)]),
+        Ok(Found(One, 0, 1, &[Marked(7, 2, 5)])),
     ),
     Case(
         12,
@@ -225,7 +224,7 @@ pub(super) const DATA: &[Case<'static>] = &[
             Frame(2, HELD, (3, 1, 0), &[At(0, 2, 0, 7, 5)]),
             Frame(71, (3, 2), (4, 0, 5), BYTES),
         ],
-        Refused(11, 2, 71),
+        Err(Refused(11, 2, 71)),
     ),
     Case(
         12,
@@ -234,7 +233,7 @@ pub(super) const DATA: &[Case<'static>] = &[
             Frame(2, HELD, (3, 1, 0), &[At(0, 2, 0, 7, 5)]),
             Frame(71, (4, 0), (4, 0, 5), BYTES),
         ],
-        Found(One, 0, 1, &[Marked(7, 2, 5)]),
+        Ok(Found(One, 0, 1, &[Marked(7, 2, 5)])),
     ),
     Case(
         12,
@@ -243,6 +242,6 @@ pub(super) const DATA: &[Case<'static>] = &[
             Frame(2, HELD, (3, 1, 0), &[At(0, 2, 0, 7, 5)]),
             Frame(71, (4, 1), (4, 0, 5), BYTES),
         ],
-        Refused(11, 2, 71),
+        Err(Refused(11, 2, 71)),
     ),
 ];

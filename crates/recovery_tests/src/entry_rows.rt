@@ -1,6 +1,5 @@
 // Rows about entry pages: each that is not in order is met at its chip page, 0 or 32.
-use crate::cases::Answer::{Found, Refused};
-use crate::cases::{Case, Marked};
+use crate::cases::{Case, Found, Marked, Refused};
 use crate::frames::{At, BLANK, BYTES, Frame, HELD, TORN};
 use crate::trailer_rows::{FORMED, SECOND};
 use layout::Area::{One, Two};
@@ -11,76 +10,76 @@ pub(super) const ENTRIES: &[Case<'static>] = &[
         12,
         FORMED,
         &[Frame(0, BLANK, (1, 0, 0), &[])],
-        Refused(11, 2, 0),
+        Err(Refused(11, 2, 0)),
     ),
     Case(
         12,
         FORMED,
         &[Frame(0, TORN, (1, 0, 0), &[])],
-        Refused(11, 2, 0),
+        Err(Refused(11, 2, 0)),
     ),
     // another kind, count or address in the note
     Case(
         12,
         FORMED,
         &[Frame(0, HELD, (0, 0, 0), &[])],
-        Refused(11, 2, 0),
+        Err(Refused(11, 2, 0)),
     ),
     Case(
         12,
         FORMED,
         &[Frame(0, HELD, (2, 0, 0), &[])],
-        Refused(11, 2, 0),
+        Err(Refused(11, 2, 0)),
     ),
     Case(
         12,
         FORMED,
         &[Frame(0, HELD, (3, 1, 0), &[])],
-        Refused(11, 2, 0),
+        Err(Refused(11, 2, 0)),
     ),
     Case(
         12,
         FORMED,
         &[Frame(0, HELD, (1, 1, 0), &[])],
-        Refused(11, 2, 0),
+        Err(Refused(11, 2, 0)),
     ),
     Case(
         12,
         FORMED,
         &[Frame(0, HELD, (1, 0, 1), &[])],
-        Refused(11, 2, 0),
+        Err(Refused(11, 2, 0)),
     ),
     Case(
         12,
         FORMED,
         &[Frame(0, HELD, (1, 0, 0x0100_0000), &[])],
-        Refused(11, 2, 0),
+        Err(Refused(11, 2, 0)),
     ),
     // marks 3 and 255
     Case(
         12,
         FORMED,
         &[Frame(0, HELD, (1, 0, 0), &[At(0, 3, 0, 0, 0)])],
-        Refused(11, 2, 0),
+        Err(Refused(11, 2, 0)),
     ),
     Case(
         12,
         FORMED,
         &[Frame(0, HELD, (1, 0, 0), &[At(31, 255, 0, 0, 5)])],
-        Refused(11, 2, 0),
+        Err(Refused(11, 2, 0)),
     ),
     // an empty entry with an address
     Case(
         12,
         FORMED,
         &[Frame(0, HELD, (1, 0, 0), &[At(0, 0, 0, 0, 1)])],
-        Refused(11, 2, 0),
+        Err(Refused(11, 2, 0)),
     ),
     Case(
         12,
         FORMED,
         &[Frame(0, HELD, (1, 0, 0), &[At(31, 0, 0, 0, 4294967295)])],
-        Refused(11, 2, 0),
+        Err(Refused(11, 2, 0)),
     ),
     // a byte that is not zero behind the mark, each of three
     Case(
@@ -90,7 +89,7 @@ pub(super) const ENTRIES: &[Case<'static>] = &[
             Frame(0, HELD, (1, 0, 0), &[At(5, 1, 1, 0, 7)]),
             Frame(69, HELD, (4, 0, 7), BYTES),
         ],
-        Refused(11, 2, 0),
+        Err(Refused(11, 2, 0)),
     ),
     Case(
         12,
@@ -99,7 +98,7 @@ pub(super) const ENTRIES: &[Case<'static>] = &[
             Frame(0, HELD, (1, 0, 0), &[At(5, 1, 0, 256, 7)]),
             Frame(69, HELD, (4, 0, 7), BYTES),
         ],
-        Refused(11, 2, 0),
+        Err(Refused(11, 2, 0)),
     ),
     Case(
         12,
@@ -108,26 +107,26 @@ pub(super) const ENTRIES: &[Case<'static>] = &[
             Frame(0, HELD, (1, 0, 0), &[At(5, 1, 0, 1, 7)]),
             Frame(69, HELD, (4, 0, 7), BYTES),
         ],
-        Refused(11, 2, 0),
+        Err(Refused(11, 2, 0)),
     ),
     // behind the last data page: an entry, a byte, the last byte
     Case(
         12,
         FORMED,
         &[Frame(0, HELD, (1, 0, 0), &[At(32, 1, 0, 0, 7)])],
-        Refused(11, 2, 0),
+        Err(Refused(11, 2, 0)),
     ),
     Case(
         12,
         FORMED,
         &[Frame(0, HELD, (1, 0, 0), &[At(32, 0, 0, 0, 1)])],
-        Refused(11, 2, 0),
+        Err(Refused(11, 2, 0)),
     ),
     Case(
         12,
         FORMED,
         &[Frame(0, HELD, (1, 0, 0), &[At(63, 0, 0, 0, 1)])],
-        Refused(11, 2, 0),
+        Err(Refused(11, 2, 0)),
     ),
     // an address twice, with equal marks and with others; address 0 too
     Case(
@@ -138,7 +137,7 @@ pub(super) const ENTRIES: &[Case<'static>] = &[
             Frame(64, HELD, (4, 0, 7), BYTES),
             Frame(65, HELD, (4, 0, 7), BYTES),
         ],
-        Refused(11, 2, 0),
+        Err(Refused(11, 2, 0)),
     ),
     Case(
         12,
@@ -148,7 +147,7 @@ pub(super) const ENTRIES: &[Case<'static>] = &[
             Frame(64, HELD, (4, 0, 7), BYTES),
             Frame(95, HELD, (4, 0, 7), BYTES),
         ],
-        Refused(11, 2, 0),
+        Err(Refused(11, 2, 0)),
     ),
     Case(
         12,
@@ -158,20 +157,20 @@ pub(super) const ENTRIES: &[Case<'static>] = &[
             Frame(67, HELD, (4, 0, 0), BYTES),
             Frame(68, HELD, (4, 0, 0), BYTES),
         ],
-        Refused(11, 2, 0),
+        Err(Refused(11, 2, 0)),
     ),
     // in area two the page is 32
     Case(
         12,
         SECOND,
         &[Frame(32, TORN, (1, 0, 0), &[])],
-        Refused(11, 2, 32),
+        Err(Refused(11, 2, 32)),
     ),
     Case(
         12,
         SECOND,
         &[Frame(32, HELD, (1, 0, 0), &[At(0, 1, 0, 0, 7), At(1, 1, 0, 0, 7)])],
-        Refused(11, 2, 32),
+        Err(Refused(11, 2, 32)),
     ),
     // an entry page comes before the log and the data pages
     Case(
@@ -181,7 +180,7 @@ pub(super) const ENTRIES: &[Case<'static>] = &[
             Frame(0, HELD, (1, 0, 0), &[At(0, 3, 0, 0, 0), At(1, 1, 0, 0, 7)]),
             Frame(2, HELD, (9, 0, 0), &[]),
         ],
-        Refused(11, 2, 0),
+        Err(Refused(11, 2, 0)),
     ),
     // in order: the first and the last data page, the smallest and the largest address
     Case(
@@ -197,7 +196,7 @@ pub(super) const ENTRIES: &[Case<'static>] = &[
             Frame(64, HELD, (4, 0, 0), BYTES),
             Frame(95, HELD, (4, 0, 4294967295), BYTES),
         ],
-        Found(One, 0, 0, &[Marked(0, 1, 0), Marked(31, 2, 4294967295)]),
+        Ok(Found(One, 0, 0, &[Marked(0, 1, 0), Marked(31, 2, 4294967295)])),
     ),
     // address 0 is held by a marked page only
     Case(
@@ -207,7 +206,7 @@ pub(super) const ENTRIES: &[Case<'static>] = &[
             Frame(0, HELD, (1, 0, 0), &[At(9, 2, 0, 0, 0)]),
             Frame(73, HELD, (4, 0, 0), BYTES),
         ],
-        Found(One, 0, 0, &[Marked(9, 2, 0)]),
+        Ok(Found(One, 0, 0, &[Marked(9, 2, 0)])),
     ),
     // addresses that differ in one byte each
     Case(
@@ -230,7 +229,7 @@ pub(super) const ENTRIES: &[Case<'static>] = &[
             Frame(66, HELD, (4, 0, 256), BYTES),
             Frame(67, HELD, (4, 0, 1), BYTES),
         ],
-        Found(
+        Ok(Found(
             One,
             0,
             0,
@@ -240,7 +239,7 @@ pub(super) const ENTRIES: &[Case<'static>] = &[
                 Marked(2, 1, 256),
                 Marked(3, 2, 1),
             ],
-        ),
+        )),
     ),
     Case(
         12,
@@ -249,6 +248,6 @@ pub(super) const ENTRIES: &[Case<'static>] = &[
             Frame(32, HELD, (1, 0, 0), &[At(3, 2, 0, 0, 258)]),
             Frame(67, HELD, (4, 0, 258), BYTES),
         ],
-        Found(Two, 1, 0, &[Marked(3, 2, 258)]),
+        Ok(Found(Two, 1, 0, &[Marked(3, 2, 258)])),
     ),
 ];

@@ -1,13 +1,12 @@
 // Rows about the log, chip pages 2 to 31 or 34 to 63: which records can be replayed, and which pages are log pages.
-use crate::cases::Answer::{Found, Refused};
-use crate::cases::{Case, Marked};
+use crate::cases::{Case, Found, Marked, Refused};
 use crate::frames::{At, BLANK, BYTES, Frame, HELD, TORN};
 use crate::trailer_rows::{FORMED, SECOND};
 use layout::Area::{One, Two};
 
 pub(super) const REPLAYS: &[Case<'static>] = &[
     // an empty log; one page; the last page; torn ones alone
-    Case(12, FORMED, &[], Found(One, 0, 0, &[])),
+    Case(12, FORMED, &[], Ok(Found(One, 0, 0, &[]))),
     Case(
         12,
         FORMED,
@@ -15,7 +14,7 @@ pub(super) const REPLAYS: &[Case<'static>] = &[
             Frame(2, HELD, (3, 1, 0), &[At(0, 2, 0, 3, 258)]),
             Frame(67, HELD, (4, 0, 258), BYTES),
         ],
-        Found(One, 0, 1, &[Marked(3, 2, 258)]),
+        Ok(Found(One, 0, 1, &[Marked(3, 2, 258)])),
     ),
     Case(
         12,
@@ -24,19 +23,19 @@ pub(super) const REPLAYS: &[Case<'static>] = &[
             Frame(31, HELD, (3, 1, 0), &[At(0, 1, 0, 0, 5)]),
             Frame(64, HELD, (4, 0, 5), BYTES),
         ],
-        Found(One, 0, 30, &[Marked(0, 1, 5)]),
+        Ok(Found(One, 0, 30, &[Marked(0, 1, 5)])),
     ),
     Case(
         12,
         FORMED,
         &[Frame(2, TORN, (3, 0, 0), &[])],
-        Found(One, 0, 1, &[]),
+        Ok(Found(One, 0, 1, &[])),
     ),
     Case(
         12,
         FORMED,
         &[Frame(31, TORN, (3, 0, 0), &[])],
-        Found(One, 0, 30, &[]),
+        Ok(Found(One, 0, 30, &[])),
     ),
     // in area two
     Case(
@@ -47,7 +46,7 @@ pub(super) const REPLAYS: &[Case<'static>] = &[
             Frame(63, TORN, (3, 0, 0), &[]),
             Frame(95, HELD, (4, 0, 4294967295), BYTES),
         ],
-        Found(Two, 1, 30, &[Marked(31, 1, 4294967295)]),
+        Ok(Found(Two, 1, 30, &[Marked(31, 1, 4294967295)])),
     ),
     // pages in order, blank and torn ones before, between and behind them
     Case(
@@ -62,7 +61,7 @@ pub(super) const REPLAYS: &[Case<'static>] = &[
             Frame(11, TORN, (3, 0, 0), &[]),
             Frame(65, HELD, (4, 0, 5), BYTES),
         ],
-        Found(One, 0, 10, &[Marked(1, 2, 5)]),
+        Ok(Found(One, 0, 10, &[Marked(1, 2, 5)])),
     ),
     // a torn page is passed over, whatever its note and bytes
     Case(
@@ -75,7 +74,7 @@ pub(super) const REPLAYS: &[Case<'static>] = &[
             Frame(64, HELD, (4, 0, 5), BYTES),
             Frame(65, HELD, (4, 0, 6), BYTES),
         ],
-        Found(One, 0, 3, &[Marked(0, 1, 5), Marked(1, 2, 6)]),
+        Ok(Found(One, 0, 3, &[Marked(0, 1, 5), Marked(1, 2, 6)])),
     ),
     // a blank page likewise
     Case(
@@ -86,7 +85,7 @@ pub(super) const REPLAYS: &[Case<'static>] = &[
             Frame(3, BLANK, (3, 1, 0), &[At(0, 3, 0, 0, 5)]),
             Frame(64, HELD, (4, 0, 5), BYTES),
         ],
-        Found(One, 0, 1, &[Marked(0, 1, 5)]),
+        Ok(Found(One, 0, 1, &[Marked(0, 1, 5)])),
     ),
     // an unsettled page is old, new or torn after the power cut
     Case(
@@ -96,7 +95,7 @@ pub(super) const REPLAYS: &[Case<'static>] = &[
             Frame(2, (3, 0), (3, 1, 0), &[At(0, 1, 0, 0, 5)]),
             Frame(64, HELD, (4, 0, 5), BYTES),
         ],
-        Found(One, 0, 0, &[]),
+        Ok(Found(One, 0, 0, &[])),
     ),
     Case(
         12,
@@ -105,7 +104,7 @@ pub(super) const REPLAYS: &[Case<'static>] = &[
             Frame(2, (3, 1), (3, 1, 0), &[At(0, 1, 0, 0, 5)]),
             Frame(64, HELD, (4, 0, 5), BYTES),
         ],
-        Found(One, 0, 1, &[Marked(0, 1, 5)]),
+        Ok(Found(One, 0, 1, &[Marked(0, 1, 5)])),
     ),
     Case(
         12,
@@ -114,7 +113,7 @@ pub(super) const REPLAYS: &[Case<'static>] = &[
             Frame(2, (3, 2), (3, 1, 0), &[At(0, 1, 0, 0, 5)]),
             Frame(64, HELD, (4, 0, 5), BYTES),
         ],
-        Found(One, 0, 1, &[]),
+        Ok(Found(One, 0, 1, &[])),
     ),
     // put clean, put dirty on another page, then drop: empty
     Case(
@@ -124,7 +123,7 @@ pub(super) const REPLAYS: &[Case<'static>] = &[
             Frame(2, HELD, (3, 2, 0), &[At(0, 1, 0, 0, 5), At(1, 2, 0, 1, 5)]),
             Frame(65, HELD, (4, 0, 5), BYTES),
         ],
-        Found(One, 0, 1, &[Marked(1, 2, 5)]),
+        Ok(Found(One, 0, 1, &[Marked(1, 2, 5)])),
     ),
     Case(
         12,
@@ -135,7 +134,7 @@ pub(super) const REPLAYS: &[Case<'static>] = &[
             (3, 3, 0),
             &[At(0, 1, 0, 0, 5), At(1, 2, 0, 1, 5), At(2, 3, 0, 0, 5)],
         )],
-        Found(One, 0, 1, &[]),
+        Ok(Found(One, 0, 1, &[])),
     ),
     Case(
         12,
@@ -151,7 +150,7 @@ pub(super) const REPLAYS: &[Case<'static>] = &[
                 At(3, 3, 0, 0, 5),
             ],
         )],
-        Refused(11, 2, 2),
+        Err(Refused(11, 2, 2)),
     ),
     // a page that was emptied may be put again, in the same log page or a later one
     Case(
@@ -166,7 +165,7 @@ pub(super) const REPLAYS: &[Case<'static>] = &[
             ),
             Frame(64, HELD, (4, 0, 5), BYTES),
         ],
-        Found(One, 0, 1, &[Marked(0, 2, 5)]),
+        Ok(Found(One, 0, 1, &[Marked(0, 2, 5)])),
     ),
     Case(
         12,
@@ -176,7 +175,7 @@ pub(super) const REPLAYS: &[Case<'static>] = &[
             Frame(3, HELD, (3, 1, 0), &[At(0, 2, 0, 0, 6)]),
             Frame(64, HELD, (4, 0, 6), BYTES),
         ],
-        Found(One, 0, 2, &[Marked(0, 2, 6)]),
+        Ok(Found(One, 0, 2, &[Marked(0, 2, 6)])),
     ),
     // marks: dirty becomes clean, clean stays clean; addresses 0 and the largest
     Case(
@@ -196,7 +195,7 @@ pub(super) const REPLAYS: &[Case<'static>] = &[
             Frame(64, HELD, (4, 0, 0), BYTES),
             Frame(65, HELD, (4, 0, 4294967295), BYTES),
         ],
-        Found(One, 0, 1, &[Marked(0, 1, 0), Marked(1, 2, 4294967295)]),
+        Ok(Found(One, 0, 1, &[Marked(0, 1, 0), Marked(1, 2, 4294967295)])),
     ),
     Case(
         12,
@@ -210,7 +209,7 @@ pub(super) const REPLAYS: &[Case<'static>] = &[
             ),
             Frame(68, HELD, (4, 0, 9), BYTES),
         ],
-        Found(One, 0, 1, &[Marked(4, 1, 9)]),
+        Ok(Found(One, 0, 1, &[Marked(4, 1, 9)])),
     ),
     // records on entries of the checkpoint
     Case(
@@ -232,7 +231,7 @@ pub(super) const REPLAYS: &[Case<'static>] = &[
             Frame(64, HELD, (4, 0, 7), BYTES),
             Frame(67, HELD, (4, 0, 9), BYTES),
         ],
-        Found(One, 0, 1, &[Marked(0, 1, 7), Marked(3, 2, 9)]),
+        Ok(Found(One, 0, 1, &[Marked(0, 1, 7), Marked(3, 2, 9)])),
     ),
     // puts: on a page marked before, by the log or the checkpoint, even with its own address
     Case(
@@ -242,7 +241,7 @@ pub(super) const REPLAYS: &[Case<'static>] = &[
             Frame(2, HELD, (3, 2, 0), &[At(0, 1, 0, 0, 5), At(1, 2, 0, 0, 6)]),
             Frame(64, HELD, (4, 0, 6), BYTES),
         ],
-        Refused(11, 2, 2),
+        Err(Refused(11, 2, 2)),
     ),
     Case(
         12,
@@ -251,7 +250,7 @@ pub(super) const REPLAYS: &[Case<'static>] = &[
             Frame(2, HELD, (3, 2, 0), &[At(0, 1, 0, 0, 5), At(1, 2, 0, 0, 5)]),
             Frame(64, HELD, (4, 0, 5), BYTES),
         ],
-        Refused(11, 2, 2),
+        Err(Refused(11, 2, 2)),
     ),
     Case(
         12,
@@ -261,7 +260,7 @@ pub(super) const REPLAYS: &[Case<'static>] = &[
             Frame(2, HELD, (3, 1, 0), &[At(0, 1, 0, 31, 5)]),
             Frame(95, HELD, (4, 0, 5), BYTES),
         ],
-        Refused(11, 2, 2),
+        Err(Refused(11, 2, 2)),
     ),
     Case(
         12,
@@ -271,7 +270,7 @@ pub(super) const REPLAYS: &[Case<'static>] = &[
             Frame(5, HELD, (3, 1, 0), &[At(0, 1, 0, 0, 6)]),
             Frame(64, HELD, (4, 0, 6), BYTES),
         ],
-        Refused(11, 2, 5),
+        Err(Refused(11, 2, 5)),
     ),
     // puts: the last data page, the first that is not there, the largest number
     Case(
@@ -281,68 +280,68 @@ pub(super) const REPLAYS: &[Case<'static>] = &[
             Frame(2, HELD, (3, 1, 0), &[At(0, 1, 0, 31, 5)]),
             Frame(95, HELD, (4, 0, 5), BYTES),
         ],
-        Found(One, 0, 1, &[Marked(31, 1, 5)]),
+        Ok(Found(One, 0, 1, &[Marked(31, 1, 5)])),
     ),
     Case(
         12,
         FORMED,
         &[Frame(2, HELD, (3, 1, 0), &[At(0, 1, 0, 32, 5)])],
-        Refused(11, 2, 2),
+        Err(Refused(11, 2, 2)),
     ),
     Case(
         12,
         FORMED,
         &[Frame(2, HELD, (3, 1, 0), &[At(0, 2, 0, 65535, 5)])],
-        Refused(11, 2, 2),
+        Err(Refused(11, 2, 2)),
     ),
     // drops and marks of an address that is not held; address 0 is not held by an empty page
     Case(
         12,
         FORMED,
         &[Frame(2, HELD, (3, 1, 0), &[At(0, 3, 0, 0, 5)])],
-        Refused(11, 2, 2),
+        Err(Refused(11, 2, 2)),
     ),
     Case(
         12,
         FORMED,
         &[Frame(2, HELD, (3, 1, 0), &[At(0, 4, 0, 0, 5)])],
-        Refused(11, 2, 2),
+        Err(Refused(11, 2, 2)),
     ),
     Case(
         12,
         FORMED,
         &[Frame(2, HELD, (3, 1, 0), &[At(0, 3, 0, 0, 0)])],
-        Refused(11, 2, 2),
+        Err(Refused(11, 2, 2)),
     ),
     Case(
         12,
         FORMED,
         &[Frame(2, HELD, (3, 1, 0), &[At(0, 4, 0, 0, 0)])],
-        Refused(11, 2, 2),
+        Err(Refused(11, 2, 2)),
     ),
     Case(
         12,
         FORMED,
         &[Frame(2, HELD, (3, 2, 0), &[At(0, 2, 0, 0, 5), At(1, 4, 0, 0, 6)])],
-        Refused(11, 2, 2),
+        Err(Refused(11, 2, 2)),
     ),
     Case(
         12,
         FORMED,
         &[Frame(31, HELD, (3, 1, 0), &[At(0, 3, 0, 0, 4294967295)])],
-        Refused(11, 2, 31),
+        Err(Refused(11, 2, 31)),
     ),
     Case(
         12,
         SECOND,
         &[Frame(34, HELD, (3, 1, 0), &[At(0, 3, 0, 0, 5)])],
-        Refused(11, 2, 34),
+        Err(Refused(11, 2, 34)),
     ),
     Case(
         12,
         SECOND,
         &[Frame(63, HELD, (3, 1, 0), &[At(0, 4, 0, 0, 5)])],
-        Refused(11, 2, 63),
+        Err(Refused(11, 2, 63)),
     ),
 ];
 
@@ -355,7 +354,7 @@ pub(super) const LOGS: &[Case<'static>] = &[
             Frame(2, HELD, (0, 1, 0), &[At(0, 1, 0, 0, 5)]),
             Frame(64, HELD, (4, 0, 5), BYTES),
         ],
-        Refused(11, 2, 2),
+        Err(Refused(11, 2, 2)),
     ),
     Case(
         12,
@@ -364,7 +363,7 @@ pub(super) const LOGS: &[Case<'static>] = &[
             Frame(2, HELD, (1, 1, 0), &[At(0, 1, 0, 0, 5)]),
             Frame(64, HELD, (4, 0, 5), BYTES),
         ],
-        Refused(11, 2, 2),
+        Err(Refused(11, 2, 2)),
     ),
     Case(
         12,
@@ -373,7 +372,7 @@ pub(super) const LOGS: &[Case<'static>] = &[
             Frame(2, HELD, (2, 1, 0), &[At(0, 1, 0, 0, 5)]),
             Frame(64, HELD, (4, 0, 5), BYTES),
         ],
-        Refused(11, 2, 2),
+        Err(Refused(11, 2, 2)),
     ),
     Case(
         12,
@@ -382,7 +381,7 @@ pub(super) const LOGS: &[Case<'static>] = &[
             Frame(2, HELD, (4, 1, 0), &[At(0, 1, 0, 0, 5)]),
             Frame(64, HELD, (4, 0, 5), BYTES),
         ],
-        Refused(11, 2, 2),
+        Err(Refused(11, 2, 2)),
     ),
     Case(
         12,
@@ -391,14 +390,14 @@ pub(super) const LOGS: &[Case<'static>] = &[
             Frame(2, HELD, (255, 1, 0), &[At(0, 1, 0, 0, 5)]),
             Frame(64, HELD, (4, 0, 5), BYTES),
         ],
-        Refused(11, 2, 2),
+        Err(Refused(11, 2, 2)),
     ),
     // count 0, 65 and 255; an address in the note
     Case(
         12,
         FORMED,
         &[Frame(2, HELD, (3, 0, 0), &[])],
-        Refused(11, 2, 2),
+        Err(Refused(11, 2, 2)),
     ),
     Case(
         12,
@@ -407,7 +406,7 @@ pub(super) const LOGS: &[Case<'static>] = &[
             Frame(2, HELD, (3, 65, 0), &[At(0, 1, 0, 0, 5)]),
             Frame(64, HELD, (4, 0, 5), BYTES),
         ],
-        Refused(11, 2, 2),
+        Err(Refused(11, 2, 2)),
     ),
     Case(
         12,
@@ -416,7 +415,7 @@ pub(super) const LOGS: &[Case<'static>] = &[
             Frame(2, HELD, (3, 255, 0), &[At(0, 1, 0, 0, 5)]),
             Frame(64, HELD, (4, 0, 5), BYTES),
         ],
-        Refused(11, 2, 2),
+        Err(Refused(11, 2, 2)),
     ),
     Case(
         12,
@@ -425,7 +424,7 @@ pub(super) const LOGS: &[Case<'static>] = &[
             Frame(2, HELD, (3, 1, 1), &[At(0, 1, 0, 0, 5)]),
             Frame(64, HELD, (4, 0, 5), BYTES),
         ],
-        Refused(11, 2, 2),
+        Err(Refused(11, 2, 2)),
     ),
     // fewer or more records than the count says
     Case(
@@ -436,7 +435,7 @@ pub(super) const LOGS: &[Case<'static>] = &[
             Frame(64, HELD, (4, 0, 5), BYTES),
             Frame(65, HELD, (4, 0, 6), BYTES),
         ],
-        Refused(11, 2, 2),
+        Err(Refused(11, 2, 2)),
     ),
     Case(
         12,
@@ -445,7 +444,7 @@ pub(super) const LOGS: &[Case<'static>] = &[
             Frame(2, HELD, (3, 2, 0), &[At(0, 1, 0, 0, 5)]),
             Frame(64, HELD, (4, 0, 5), BYTES),
         ],
-        Refused(11, 2, 2),
+        Err(Refused(11, 2, 2)),
     ),
     // a byte that is not zero after the records: the next, the last
     Case(
@@ -455,7 +454,7 @@ pub(super) const LOGS: &[Case<'static>] = &[
             Frame(2, HELD, (3, 1, 0), &[At(0, 1, 0, 0, 5), At(1, 0, 1, 0, 0)]),
             Frame(64, HELD, (4, 0, 5), BYTES),
         ],
-        Refused(11, 2, 2),
+        Err(Refused(11, 2, 2)),
     ),
     Case(
         12,
@@ -464,26 +463,26 @@ pub(super) const LOGS: &[Case<'static>] = &[
             Frame(2, HELD, (3, 1, 0), &[At(0, 1, 0, 0, 5), At(63, 0, 0, 0, 1)]),
             Frame(64, HELD, (4, 0, 5), BYTES),
         ],
-        Refused(11, 2, 2),
+        Err(Refused(11, 2, 2)),
     ),
     // records of kind 0, 5 and 255
     Case(
         12,
         FORMED,
         &[Frame(2, HELD, (3, 1, 0), &[At(0, 0, 0, 0, 5)])],
-        Refused(11, 2, 2),
+        Err(Refused(11, 2, 2)),
     ),
     Case(
         12,
         FORMED,
         &[Frame(2, HELD, (3, 2, 0), &[At(0, 1, 0, 0, 5), At(1, 5, 0, 0, 5)])],
-        Refused(11, 2, 2),
+        Err(Refused(11, 2, 2)),
     ),
     Case(
         12,
         FORMED,
         &[Frame(2, HELD, (3, 1, 0), &[At(0, 255, 0, 0, 5)])],
-        Refused(11, 2, 2),
+        Err(Refused(11, 2, 2)),
     ),
     // a second byte that is not zero, in each kind of record
     Case(
@@ -493,7 +492,7 @@ pub(super) const LOGS: &[Case<'static>] = &[
             Frame(2, HELD, (3, 1, 0), &[At(0, 1, 1, 0, 5)]),
             Frame(64, HELD, (4, 0, 5), BYTES),
         ],
-        Refused(11, 2, 2),
+        Err(Refused(11, 2, 2)),
     ),
     Case(
         12,
@@ -502,13 +501,13 @@ pub(super) const LOGS: &[Case<'static>] = &[
             Frame(2, HELD, (3, 1, 0), &[At(0, 2, 128, 0, 5)]),
             Frame(64, HELD, (4, 0, 5), BYTES),
         ],
-        Refused(11, 2, 2),
+        Err(Refused(11, 2, 2)),
     ),
     Case(
         12,
         FORMED,
         &[Frame(2, HELD, (3, 2, 0), &[At(0, 1, 0, 0, 5), At(1, 3, 1, 0, 5)])],
-        Refused(11, 2, 2),
+        Err(Refused(11, 2, 2)),
     ),
     Case(
         12,
@@ -517,14 +516,14 @@ pub(super) const LOGS: &[Case<'static>] = &[
             Frame(2, HELD, (3, 2, 0), &[At(0, 1, 0, 0, 5), At(1, 4, 1, 0, 5)]),
             Frame(64, HELD, (4, 0, 5), BYTES),
         ],
-        Refused(11, 2, 2),
+        Err(Refused(11, 2, 2)),
     ),
     // a data page in a drop or a mark
     Case(
         12,
         FORMED,
         &[Frame(2, HELD, (3, 2, 0), &[At(0, 1, 0, 1, 5), At(1, 3, 0, 1, 5)])],
-        Refused(11, 2, 2),
+        Err(Refused(11, 2, 2)),
     ),
     Case(
         12,
@@ -533,7 +532,7 @@ pub(super) const LOGS: &[Case<'static>] = &[
             Frame(2, HELD, (3, 2, 0), &[At(0, 1, 0, 1, 5), At(1, 4, 0, 1, 5)]),
             Frame(65, HELD, (4, 0, 5), BYTES),
         ],
-        Refused(11, 2, 2),
+        Err(Refused(11, 2, 2)),
     ),
     Case(
         12,
@@ -547,7 +546,7 @@ pub(super) const LOGS: &[Case<'static>] = &[
             ),
             Frame(65, HELD, (4, 0, 5), BYTES),
         ],
-        Refused(11, 2, 2),
+        Err(Refused(11, 2, 2)),
     ),
     // the page where it is met, behind a good one and a torn one; the first of two
     Case(
@@ -560,25 +559,25 @@ pub(super) const LOGS: &[Case<'static>] = &[
             Frame(5, HELD, (3, 1, 0), &[At(0, 9, 0, 0, 0)]),
             Frame(64, HELD, (4, 0, 5), BYTES),
         ],
-        Refused(11, 2, 4),
+        Err(Refused(11, 2, 4)),
     ),
     Case(
         12,
         FORMED,
         &[Frame(31, HELD, (4, 0, 5), &[])],
-        Refused(11, 2, 31),
+        Err(Refused(11, 2, 31)),
     ),
     Case(
         12,
         SECOND,
         &[Frame(34, HELD, (1, 0, 0), &[])],
-        Refused(11, 2, 34),
+        Err(Refused(11, 2, 34)),
     ),
     Case(
         12,
         SECOND,
         &[Frame(63, HELD, (2, 1, 1), &[])],
-        Refused(11, 2, 63),
+        Err(Refused(11, 2, 63)),
     ),
     // the log comes before the data pages
     Case(
@@ -588,6 +587,6 @@ pub(super) const LOGS: &[Case<'static>] = &[
             Frame(0, HELD, (1, 0, 0), &[At(0, 1, 0, 0, 5)]),
             Frame(31, HELD, (3, 1, 0), &[At(0, 3, 0, 0, 6)]),
         ],
-        Refused(11, 2, 31),
+        Err(Refused(11, 2, 31)),
     ),
 ];

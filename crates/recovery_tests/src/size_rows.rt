@@ -1,7 +1,6 @@
 // Rows about chips of other sizes: 12 to 64 erase blocks serve. The largest has 448 data pages, its entry pages at 0 to 6 and 32
 // to 38, its trailers at 7 and 39, and 24 log pages behind each.
-use crate::cases::Answer::{Found, Refused};
-use crate::cases::{Case, Marked, Off};
+use crate::cases::{Case, Found, Marked, Off, Refused};
 use crate::frames::{At, BLANK, BYTES, Frame, HELD, TORN};
 use layout::Area::{One, Two};
 
@@ -24,9 +23,9 @@ const LARGE: &[Frame<'static>] = &[
 
 pub(super) const SIZES: &[Case<'static>] = &[
     // too few erase blocks, whatever the chip holds
-    Case(1, &[], &[], Refused(12, 2, 0)),
-    Case(8, &[], &[], Refused(12, 2, 0)),
-    Case(11, &[], &[], Refused(12, 2, 0)),
+    Case(1, &[], &[], Err(Refused(12, 2, 0))),
+    Case(8, &[], &[], Err(Refused(12, 2, 0))),
+    Case(11, &[], &[], Err(Refused(12, 2, 0))),
     Case(
         11,
         &[
@@ -39,10 +38,10 @@ pub(super) const SIZES: &[Case<'static>] = &[
             ),
         ],
         &[],
-        Refused(12, 2, 0),
+        Err(Refused(12, 2, 0)),
     ),
     // too many are no image chip
-    Case(65, &[], &[], Refused(2, 1, 0)),
+    Case(65, &[], &[], Err(Refused(2, 1, 0))),
     // the smallest chip, and those where another entry page begins
     Case(
         12,
@@ -56,7 +55,7 @@ pub(super) const SIZES: &[Case<'static>] = &[
             ),
         ],
         &[],
-        Found(Two, 0, 0, &[]),
+        Ok(Found(Two, 0, 0, &[])),
     ),
     Case(
         16,
@@ -74,7 +73,7 @@ pub(super) const SIZES: &[Case<'static>] = &[
             Frame(127, HELD, (4, 0, 9), BYTES),
             Frame(31, TORN, (0, 0, 0), &[]),
         ],
-        Found(One, 1, 30, &[Marked(63, 1, 9)]),
+        Ok(Found(One, 1, 30, &[Marked(63, 1, 9)])),
     ),
     Case(
         17,
@@ -93,7 +92,7 @@ pub(super) const SIZES: &[Case<'static>] = &[
             Frame(128, HELD, (4, 0, 9), BYTES),
             Frame(31, TORN, (0, 0, 0), &[]),
         ],
-        Found(One, 1, 29, &[Marked(64, 1, 9)]),
+        Ok(Found(One, 1, 29, &[Marked(64, 1, 9)])),
     ),
     Case(
         17,
@@ -112,7 +111,7 @@ pub(super) const SIZES: &[Case<'static>] = &[
             Frame(135, HELD, (4, 0, 9), BYTES),
             Frame(35, TORN, (0, 0, 0), &[]),
         ],
-        Found(Two, 1, 1, &[Marked(71, 1, 9)]),
+        Ok(Found(Two, 1, 1, &[Marked(71, 1, 9)])),
     ),
     Case(
         17,
@@ -127,11 +126,11 @@ pub(super) const SIZES: &[Case<'static>] = &[
             ),
         ],
         &[Frame(1, HELD, (1, 1, 0), &[At(8, 1, 0, 0, 9)])],
-        Refused(11, 2, 1),
+        Err(Refused(11, 2, 1)),
     ),
     // the largest chip
-    Case(64, &[], &[], Refused(10, 2, 0)),
-    Case(64, LARGE, &[], Found(One, 2, 0, &[])),
+    Case(64, &[], &[], Err(Refused(10, 2, 0))),
+    Case(64, LARGE, &[], Ok(Found(One, 2, 0, &[]))),
     Case(
         64,
         LARGE,
@@ -150,7 +149,7 @@ pub(super) const SIZES: &[Case<'static>] = &[
             Frame(37, HELD, (1, 5, 0), &[]),
             Frame(38, HELD, (1, 6, 0), &[]),
         ],
-        Found(Two, 0, 0, &[]),
+        Ok(Found(Two, 0, 0, &[])),
     ),
     Case(
         64,
@@ -161,7 +160,7 @@ pub(super) const SIZES: &[Case<'static>] = &[
             (2, 7, 2),
             &[At(0, 0x46, 0x54, 0x4350, 0x0020_01c0)],
         )],
-        Refused(11, 2, 39),
+        Err(Refused(11, 2, 39)),
     ),
     Case(
         64,
@@ -172,7 +171,7 @@ pub(super) const SIZES: &[Case<'static>] = &[
             (2, 6, 0),
             &[At(0, 0x46, 0x54, 0x4350, 0x0020_01c0)],
         )],
-        Refused(11, 2, 39),
+        Err(Refused(11, 2, 39)),
     ),
     Case(
         64,
@@ -183,7 +182,7 @@ pub(super) const SIZES: &[Case<'static>] = &[
             (2, 7, 2),
             &[At(0, 0x46, 0x54, 0x4350, 0x0000_0200)],
         )],
-        Refused(11, 2, 7),
+        Err(Refused(11, 2, 7)),
     ),
     // every entry page has its own entries
     Case(
@@ -247,7 +246,7 @@ pub(super) const SIZES: &[Case<'static>] = &[
             Frame(447, HELD, (4, 0, 205), BYTES),
             Frame(511, HELD, (4, 0, 206), BYTES),
         ],
-        Found(
+        Ok(Found(
             One,
             2,
             0,
@@ -267,14 +266,14 @@ pub(super) const SIZES: &[Case<'static>] = &[
                 Marked(384, 1, 106),
                 Marked(447, 2, 206),
             ],
-        ),
+        )),
     ),
     // entry pages that are not held, or stand in another's place; the first is met
     Case(
         64,
         LARGE,
         &[Frame(6, TORN, (0, 0, 0), &[])],
-        Refused(11, 2, 6),
+        Err(Refused(11, 2, 6)),
     ),
     Case(
         64,
@@ -283,13 +282,13 @@ pub(super) const SIZES: &[Case<'static>] = &[
             Frame(3, BLANK, (0, 0, 0), &[]),
             Frame(5, BLANK, (0, 0, 0), &[]),
         ],
-        Refused(11, 2, 3),
+        Err(Refused(11, 2, 3)),
     ),
     Case(
         64,
         LARGE,
         &[Frame(4, HELD, (1, 3, 0), &[])],
-        Refused(11, 2, 4),
+        Err(Refused(11, 2, 4)),
     ),
     Case(
         64,
@@ -298,7 +297,7 @@ pub(super) const SIZES: &[Case<'static>] = &[
             Frame(2, HELD, (1, 3, 0), &[]),
             Frame(3, HELD, (1, 2, 0), &[]),
         ],
-        Refused(11, 2, 2),
+        Err(Refused(11, 2, 2)),
     ),
     // an address twice, on two pages: met at the second
     Case(
@@ -310,7 +309,7 @@ pub(super) const SIZES: &[Case<'static>] = &[
             Frame(64, HELD, (4, 0, 9), BYTES),
             Frame(511, HELD, (4, 0, 9), BYTES),
         ],
-        Refused(11, 2, 6),
+        Err(Refused(11, 2, 6)),
     ),
     Case(
         64,
@@ -321,7 +320,7 @@ pub(super) const SIZES: &[Case<'static>] = &[
             Frame(255, HELD, (4, 0, 0), BYTES),
             Frame(256, HELD, (4, 0, 0), BYTES),
         ],
-        Refused(11, 2, 3),
+        Err(Refused(11, 2, 3)),
     ),
     // the log: pages 8 to 31, and the last data page
     Case(
@@ -338,25 +337,25 @@ pub(super) const SIZES: &[Case<'static>] = &[
             Frame(511, HELD, (4, 0, 4294967295), BYTES),
             Frame(320, HELD, (4, 0, 0), BYTES),
         ],
-        Found(One, 2, 24, &[Marked(256, 1, 0), Marked(447, 1, 4294967295)]),
+        Ok(Found(One, 2, 24, &[Marked(256, 1, 0), Marked(447, 1, 4294967295)])),
     ),
     Case(
         64,
         LARGE,
         &[Frame(8, HELD, (3, 1, 0), &[At(0, 1, 0, 448, 5)])],
-        Refused(11, 2, 8),
+        Err(Refused(11, 2, 8)),
     ),
     Case(
         64,
         LARGE,
         &[Frame(31, HELD, (3, 1, 0), &[At(0, 3, 0, 0, 5)])],
-        Refused(11, 2, 31),
+        Err(Refused(11, 2, 31)),
     ),
     Case(
         64,
         LARGE,
         &[Frame(31, HELD, (3, 1, 0), &[At(0, 2, 0, 447, 5)])],
-        Refused(11, 2, 511),
+        Err(Refused(11, 2, 511)),
     ),
     Case(
         64,
@@ -365,7 +364,7 @@ pub(super) const SIZES: &[Case<'static>] = &[
             Frame(31, HELD, (3, 1, 0), &[At(0, 2, 0, 447, 5)]),
             Frame(511, TORN, (4, 0, 5), BYTES),
         ],
-        Refused(11, 2, 511),
+        Err(Refused(11, 2, 511)),
     ),
     Case(
         64,
@@ -374,7 +373,7 @@ pub(super) const SIZES: &[Case<'static>] = &[
             Frame(9, HELD, (3, 1, 0), &[At(0, 2, 0, 192, 5)]),
             Frame(256, HELD, (4, 0, 6), BYTES),
         ],
-        Refused(11, 2, 256),
+        Err(Refused(11, 2, 256)),
     ),
 ];
 

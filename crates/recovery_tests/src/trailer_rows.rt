@@ -1,7 +1,6 @@
 // Rows about trailers: which count, which are in order, and which area is active. A chip of 12 erase blocks has its trailers
 // at chip pages 1 and 33.
-use crate::cases::Answer::{Found, Refused};
-use crate::cases::Case;
+use crate::cases::{Case, Found, Refused};
 use crate::frames::{At, BLANK, Frame, HELD, TORN};
 use layout::Area::{One, Two};
 
@@ -23,7 +22,7 @@ pub(super) const SECOND: &[Frame<'static>] = &[
 
 pub(super) const TRAILERS: &[Case<'static>] = &[
     // no trailer counts: all blank; torn; held with another kind, whatever else is there
-    Case(12, &[], &[], Refused(10, 2, 0)),
+    Case(12, &[], &[], Err(Refused(10, 2, 0))),
     Case(
         12,
         FORMED,
@@ -31,13 +30,13 @@ pub(super) const TRAILERS: &[Case<'static>] = &[
             Frame(1, TORN, (2, 1, 0), ONE),
             Frame(33, TORN, (2, 1, 0), TWO),
         ],
-        Refused(10, 2, 0),
+        Err(Refused(10, 2, 0)),
     ),
     Case(
         12,
         FORMED,
         &[Frame(1, BLANK, (2, 1, 0), ONE)],
-        Refused(10, 2, 0),
+        Err(Refused(10, 2, 0)),
     ),
     Case(
         12,
@@ -46,7 +45,7 @@ pub(super) const TRAILERS: &[Case<'static>] = &[
             Frame(1, HELD, (1, 1, 0), ONE),
             Frame(33, HELD, (3, 1, 0), TWO),
         ],
-        Refused(10, 2, 0),
+        Err(Refused(10, 2, 0)),
     ),
     Case(
         12,
@@ -55,7 +54,7 @@ pub(super) const TRAILERS: &[Case<'static>] = &[
             Frame(1, HELD, (0, 1, 0), ONE),
             Frame(33, HELD, (4, 1, 0), TWO),
         ],
-        Refused(10, 2, 0),
+        Err(Refused(10, 2, 0)),
     ),
     // a trailer one page too far counts for nothing
     Case(
@@ -65,44 +64,44 @@ pub(super) const TRAILERS: &[Case<'static>] = &[
             Frame(2, HELD, (2, 1, 0), ONE),
         ],
         &[],
-        Refused(10, 2, 0),
+        Err(Refused(10, 2, 0)),
     ),
     // one trailer, with each number
     Case(
         12,
         FORMED,
         &[Frame(1, HELD, (2, 1, 0), ONE)],
-        Found(One, 0, 0, &[]),
+        Ok(Found(One, 0, 0, &[])),
     ),
     Case(
         12,
         &[Frame(32, HELD, (1, 0, 0), &[])],
         &[Frame(33, HELD, (2, 1, 0), TWO)],
-        Found(Two, 0, 0, &[]),
+        Ok(Found(Two, 0, 0, &[])),
     ),
     Case(
         12,
         FORMED,
         &[Frame(1, HELD, (2, 1, 1), ONE)],
-        Found(One, 1, 0, &[]),
+        Ok(Found(One, 1, 0, &[])),
     ),
     Case(
         12,
         &[Frame(32, HELD, (1, 0, 0), &[])],
         &[Frame(33, HELD, (2, 1, 1), TWO)],
-        Found(Two, 1, 0, &[]),
+        Ok(Found(Two, 1, 0, &[])),
     ),
     Case(
         12,
         FORMED,
         &[Frame(1, HELD, (2, 1, 2), ONE)],
-        Found(One, 2, 0, &[]),
+        Ok(Found(One, 2, 0, &[])),
     ),
     Case(
         12,
         &[Frame(32, HELD, (1, 0, 0), &[])],
         &[Frame(33, HELD, (2, 1, 2), TWO)],
-        Found(Two, 2, 0, &[]),
+        Ok(Found(Two, 2, 0, &[])),
     ),
     // two trailers, with each pair of numbers
     Case(
@@ -115,7 +114,7 @@ pub(super) const TRAILERS: &[Case<'static>] = &[
             Frame(1, HELD, (2, 1, 0), ONE),
             Frame(33, HELD, (2, 1, 0), TWO),
         ],
-        Refused(11, 2, 33),
+        Err(Refused(11, 2, 33)),
     ),
     Case(
         12,
@@ -127,7 +126,7 @@ pub(super) const TRAILERS: &[Case<'static>] = &[
             Frame(1, HELD, (2, 1, 0), ONE),
             Frame(33, HELD, (2, 1, 1), TWO),
         ],
-        Found(Two, 1, 0, &[]),
+        Ok(Found(Two, 1, 0, &[])),
     ),
     Case(
         12,
@@ -139,7 +138,7 @@ pub(super) const TRAILERS: &[Case<'static>] = &[
             Frame(1, HELD, (2, 1, 0), ONE),
             Frame(33, HELD, (2, 1, 2), TWO),
         ],
-        Found(One, 0, 0, &[]),
+        Ok(Found(One, 0, 0, &[])),
     ),
     Case(
         12,
@@ -151,7 +150,7 @@ pub(super) const TRAILERS: &[Case<'static>] = &[
             Frame(1, HELD, (2, 1, 1), ONE),
             Frame(33, HELD, (2, 1, 0), TWO),
         ],
-        Found(One, 1, 0, &[]),
+        Ok(Found(One, 1, 0, &[])),
     ),
     Case(
         12,
@@ -163,7 +162,7 @@ pub(super) const TRAILERS: &[Case<'static>] = &[
             Frame(1, HELD, (2, 1, 1), ONE),
             Frame(33, HELD, (2, 1, 1), TWO),
         ],
-        Refused(11, 2, 33),
+        Err(Refused(11, 2, 33)),
     ),
     Case(
         12,
@@ -175,7 +174,7 @@ pub(super) const TRAILERS: &[Case<'static>] = &[
             Frame(1, HELD, (2, 1, 1), ONE),
             Frame(33, HELD, (2, 1, 2), TWO),
         ],
-        Found(Two, 2, 0, &[]),
+        Ok(Found(Two, 2, 0, &[])),
     ),
     Case(
         12,
@@ -187,7 +186,7 @@ pub(super) const TRAILERS: &[Case<'static>] = &[
             Frame(1, HELD, (2, 1, 2), ONE),
             Frame(33, HELD, (2, 1, 0), TWO),
         ],
-        Found(Two, 0, 0, &[]),
+        Ok(Found(Two, 0, 0, &[])),
     ),
     Case(
         12,
@@ -199,7 +198,7 @@ pub(super) const TRAILERS: &[Case<'static>] = &[
             Frame(1, HELD, (2, 1, 2), ONE),
             Frame(33, HELD, (2, 1, 1), TWO),
         ],
-        Found(One, 2, 0, &[]),
+        Ok(Found(One, 2, 0, &[])),
     ),
     Case(
         12,
@@ -211,7 +210,7 @@ pub(super) const TRAILERS: &[Case<'static>] = &[
             Frame(1, HELD, (2, 1, 2), ONE),
             Frame(33, HELD, (2, 1, 2), TWO),
         ],
-        Refused(11, 2, 33),
+        Err(Refused(11, 2, 33)),
     ),
     // a torn trailer, or one of another kind, leaves the other area active
     Case(
@@ -224,7 +223,7 @@ pub(super) const TRAILERS: &[Case<'static>] = &[
             Frame(1, HELD, (2, 1, 1), ONE),
             Frame(33, TORN, (2, 1, 2), TWO),
         ],
-        Found(One, 1, 0, &[]),
+        Ok(Found(One, 1, 0, &[])),
     ),
     Case(
         12,
@@ -236,7 +235,7 @@ pub(super) const TRAILERS: &[Case<'static>] = &[
             Frame(1, TORN, (2, 1, 1), ONE),
             Frame(33, HELD, (2, 1, 2), TWO),
         ],
-        Found(Two, 2, 0, &[]),
+        Ok(Found(Two, 2, 0, &[])),
     ),
     Case(
         12,
@@ -248,7 +247,7 @@ pub(super) const TRAILERS: &[Case<'static>] = &[
             Frame(1, HELD, (3, 1, 1), ONE),
             Frame(33, HELD, (2, 1, 2), TWO),
         ],
-        Found(Two, 2, 0, &[]),
+        Ok(Found(Two, 2, 0, &[])),
     ),
     Case(
         12,
@@ -260,52 +259,52 @@ pub(super) const TRAILERS: &[Case<'static>] = &[
             Frame(1, HELD, (2, 1, 1), ONE),
             Frame(33, HELD, (1, 1, 2), TWO),
         ],
-        Found(One, 1, 0, &[]),
+        Ok(Found(One, 1, 0, &[])),
     ),
     // number 3, 256, 65,536 and the largest
     Case(
         12,
         FORMED,
         &[Frame(1, HELD, (2, 1, 3), ONE)],
-        Refused(11, 2, 1),
+        Err(Refused(11, 2, 1)),
     ),
     Case(
         12,
         FORMED,
         &[Frame(1, HELD, (2, 1, 256), ONE)],
-        Refused(11, 2, 1),
+        Err(Refused(11, 2, 1)),
     ),
     Case(
         12,
         FORMED,
         &[Frame(1, HELD, (2, 1, 0x0001_0000), ONE)],
-        Refused(11, 2, 1),
+        Err(Refused(11, 2, 1)),
     ),
     Case(
         12,
         FORMED,
         &[Frame(1, HELD, (2, 1, 4294967295), ONE)],
-        Refused(11, 2, 1),
+        Err(Refused(11, 2, 1)),
     ),
     // count 0 and 2
     Case(
         12,
         FORMED,
         &[Frame(1, HELD, (2, 0, 0), ONE)],
-        Refused(11, 2, 1),
+        Err(Refused(11, 2, 1)),
     ),
     Case(
         12,
         FORMED,
         &[Frame(1, HELD, (2, 2, 0), ONE)],
-        Refused(11, 2, 1),
+        Err(Refused(11, 2, 1)),
     ),
     // no letters
     Case(
         12,
         FORMED,
         &[Frame(1, HELD, (2, 1, 0), &[])],
-        Refused(11, 2, 1),
+        Err(Refused(11, 2, 1)),
     ),
     // a letter wrong, each of four
     Case(
@@ -317,7 +316,7 @@ pub(super) const TRAILERS: &[Case<'static>] = &[
             (2, 1, 0),
             &[At(0, 0x47, 0x54, 0x4350, 0x0000_0020)],
         )],
-        Refused(11, 2, 1),
+        Err(Refused(11, 2, 1)),
     ),
     Case(
         12,
@@ -328,7 +327,7 @@ pub(super) const TRAILERS: &[Case<'static>] = &[
             (2, 1, 0),
             &[At(0, 0x46, 0x55, 0x4350, 0x0000_0020)],
         )],
-        Refused(11, 2, 1),
+        Err(Refused(11, 2, 1)),
     ),
     Case(
         12,
@@ -339,7 +338,7 @@ pub(super) const TRAILERS: &[Case<'static>] = &[
             (2, 1, 0),
             &[At(0, 0x46, 0x54, 0x4450, 0x0000_0020)],
         )],
-        Refused(11, 2, 1),
+        Err(Refused(11, 2, 1)),
     ),
     Case(
         12,
@@ -350,14 +349,14 @@ pub(super) const TRAILERS: &[Case<'static>] = &[
             (2, 1, 0),
             &[At(0, 0x46, 0x54, 0x4351, 0x0000_0020)],
         )],
-        Refused(11, 2, 1),
+        Err(Refused(11, 2, 1)),
     ),
     // the other area's first page, and one that is no area's
     Case(
         12,
         FORMED,
         &[Frame(1, HELD, (2, 1, 0), TWO)],
-        Refused(11, 2, 1),
+        Err(Refused(11, 2, 1)),
     ),
     Case(
         12,
@@ -368,7 +367,7 @@ pub(super) const TRAILERS: &[Case<'static>] = &[
             (2, 1, 0),
             &[At(0, 0x46, 0x54, 0x4350, 0x0001_0020)],
         )],
-        Refused(11, 2, 1),
+        Err(Refused(11, 2, 1)),
     ),
     // 31, 33 and 0 data pages
     Case(
@@ -380,7 +379,7 @@ pub(super) const TRAILERS: &[Case<'static>] = &[
             (2, 1, 0),
             &[At(0, 0x46, 0x54, 0x4350, 0x0000_001f)],
         )],
-        Refused(11, 2, 1),
+        Err(Refused(11, 2, 1)),
     ),
     Case(
         12,
@@ -391,7 +390,7 @@ pub(super) const TRAILERS: &[Case<'static>] = &[
             (2, 1, 0),
             &[At(0, 0x46, 0x54, 0x4350, 0x0000_0021)],
         )],
-        Refused(11, 2, 1),
+        Err(Refused(11, 2, 1)),
     ),
     Case(
         12,
@@ -402,7 +401,7 @@ pub(super) const TRAILERS: &[Case<'static>] = &[
             (2, 1, 0),
             &[At(0, 0x46, 0x54, 0x4350, 0x0000_0000)],
         )],
-        Refused(11, 2, 1),
+        Err(Refused(11, 2, 1)),
     ),
     // a byte that is not zero after it: the next, the last
     Case(
@@ -414,7 +413,7 @@ pub(super) const TRAILERS: &[Case<'static>] = &[
             (2, 1, 0),
             &[At(0, 0x46, 0x54, 0x4350, 0x0000_0020), At(1, 1, 0, 0, 0)],
         )],
-        Refused(11, 2, 1),
+        Err(Refused(11, 2, 1)),
     ),
     Case(
         12,
@@ -425,38 +424,38 @@ pub(super) const TRAILERS: &[Case<'static>] = &[
             (2, 1, 0),
             &[At(0, 0x46, 0x54, 0x4350, 0x0000_0020), At(63, 0, 0, 0, 1)],
         )],
-        Refused(11, 2, 1),
+        Err(Refused(11, 2, 1)),
     ),
     // area two's trailer, in the same ways, though area one's is in order
     Case(
         12,
         FORMED,
         &[Frame(33, HELD, (2, 1, 3), TWO)],
-        Refused(11, 2, 33),
+        Err(Refused(11, 2, 33)),
     ),
     Case(
         12,
         FORMED,
         &[Frame(33, HELD, (2, 0, 1), TWO)],
-        Refused(11, 2, 33),
+        Err(Refused(11, 2, 33)),
     ),
     Case(
         12,
         FORMED,
         &[Frame(33, HELD, (2, 2, 1), TWO)],
-        Refused(11, 2, 33),
+        Err(Refused(11, 2, 33)),
     ),
     Case(
         12,
         FORMED,
         &[Frame(33, HELD, (2, 1, 1), &[])],
-        Refused(11, 2, 33),
+        Err(Refused(11, 2, 33)),
     ),
     Case(
         12,
         FORMED,
         &[Frame(33, HELD, (2, 1, 1), ONE)],
-        Refused(11, 2, 33),
+        Err(Refused(11, 2, 33)),
     ),
     Case(
         12,
@@ -467,7 +466,7 @@ pub(super) const TRAILERS: &[Case<'static>] = &[
             (2, 1, 1),
             &[At(0, 0x46, 0x54, 0x4350, 0x0020_001f)],
         )],
-        Refused(11, 2, 33),
+        Err(Refused(11, 2, 33)),
     ),
     Case(
         12,
@@ -478,14 +477,14 @@ pub(super) const TRAILERS: &[Case<'static>] = &[
             (2, 1, 1),
             &[At(0, 0x46, 0x54, 0x4350, 0x0020_0020), At(63, 0, 0, 0, 1)],
         )],
-        Refused(11, 2, 33),
+        Err(Refused(11, 2, 33)),
     ),
     // area two's alone
     Case(
         12,
         &[],
         &[Frame(33, HELD, (2, 1, 3), TWO)],
-        Refused(11, 2, 33),
+        Err(Refused(11, 2, 33)),
     ),
     // both out of order: area one's is met first
     Case(
@@ -495,7 +494,7 @@ pub(super) const TRAILERS: &[Case<'static>] = &[
             Frame(1, HELD, (2, 1, 3), ONE),
             Frame(33, HELD, (2, 1, 3), TWO),
         ],
-        Refused(11, 2, 1),
+        Err(Refused(11, 2, 1)),
     ),
     // a trailer out of order comes before an entry page that is not held
     Case(
@@ -505,7 +504,7 @@ pub(super) const TRAILERS: &[Case<'static>] = &[
             Frame(1, HELD, (2, 1, 0), ONE),
             Frame(33, HELD, (2, 1, 3), TWO),
         ],
-        Refused(11, 2, 33),
+        Err(Refused(11, 2, 33)),
     ),
     // equal numbers come before entry pages that are not held
     Case(
@@ -515,14 +514,14 @@ pub(super) const TRAILERS: &[Case<'static>] = &[
             Frame(1, HELD, (2, 1, 2), ONE),
             Frame(33, HELD, (2, 1, 2), TWO),
         ],
-        Refused(11, 2, 33),
+        Err(Refused(11, 2, 33)),
     ),
     // only the active area's pages matter: the other has its trailer alone
     Case(
         12,
         SECOND,
         &[Frame(1, HELD, (2, 1, 0), ONE)],
-        Found(Two, 1, 0, &[]),
+        Ok(Found(Two, 1, 0, &[])),
     ),
     Case(
         12,
@@ -532,7 +531,7 @@ pub(super) const TRAILERS: &[Case<'static>] = &[
             Frame(0, TORN, (0, 0, 0), &[]),
             Frame(2, HELD, (9, 9, 9), &[]),
         ],
-        Found(Two, 1, 0, &[]),
+        Ok(Found(Two, 1, 0, &[])),
     ),
     Case(
         12,
@@ -543,6 +542,6 @@ pub(super) const TRAILERS: &[Case<'static>] = &[
             Frame(34, HELD, (3, 0, 0), &[]),
             Frame(63, HELD, (4, 0, 0), &[]),
         ],
-        Found(One, 0, 0, &[]),
+        Ok(Found(One, 0, 0, &[])),
     ),
 ];

@@ -1,6 +1,7 @@
 -- The program of a blank data page: what it leaves of what the journal and the chip keep true of each other, and where a power cut in it leaves recovery.
-use Rattle.std.proofs.Common.{◌≡◌, ℕ, ◌<◌, ◌≤◌, Bool, true, false, cond, eqb, List, length, get_or, Ok, Err, Result, sym, refl, ap, ◌∙◌, subst, ⊎_elim, arith}
-use Rattle.std.proofs.lemmas.Bool.{eq-eqb, ne_eqb, cases_eq, cases_Bool, true≢false}
+use Rattle.std.proofs.Common.{◌≡◌, ℕ, ◌<◌, ◌≤◌, Bool, true, false, List, length, get_or, set, Ok, Err, Result, sym, refl, ap, ◌∙◌, subst, ⊎_elim, arith}
+use Rattle.std.proofs.lemmas.Bool.{cases_eq, cases_Bool, true≢false}
+use Rattle.std.proofs.lemmas.List.{get_or-set_same, get_or-set_other, length-set}
 use Rattle.device.specs.declared.faults.Fault.{Fault}
 use Rattle.device.specs.Cells.{Leaves, is_unsettled}
 use Rattle.device.specs.Cells.Cell.{settled}
@@ -20,7 +21,7 @@ use Rattle.journal.specs.Points.{point, Left}
 use Rattle.journal.specs.Ready.{Ready}
 use Rattle.space.specs.Rooms.{Keeps, Places}
 use Rattle.journal.specs.Steps.{Fails}
-use Rattle.space.specs.Worlds.{World, world, is_blank, blank_page, flags, past, placed}
+use Rattle.space.specs.Worlds.{World, world, is_blank, blank_page, flags, data_page_count, past, placed}
 use Rattle.space.specs.declared.blanks.Space.{Space}
 use Rattle.journal.proofs.Leaving.{left_of_holds}
 use Rattle.journal.proofs.Settledness.{settled_as, settled_reads, program_lost, program_stays, program_reads}
@@ -121,11 +122,12 @@ module _ (D i : ℕ) (note : Note) (bytes : List ℕ) (m m' : Pages) (v : Noted)
       blanks = place_blanks;
     }
 
-    pub place_flags : (f g : ℕ → Bool) → ((j : ℕ) → g j ≡ cond (eqb j i) false (f j)) → ((j : ℕ) → j < D → f j ≡ blank_page (shown m) j) → (j : ℕ) → j < D → g j ≡ blank_page (shown m') j
-    place_flags f g step h j l =
+    pub place_flags : (xs : List Bool) → i < length xs → ((j : ℕ) → j < D → get_or xs j false ≡ blank_page (shown m) j)
+        → (j : ℕ) → j < D → get_or (set xs i false) j false ≡ blank_page (shown m') j
+    place_flags xs inside h j l =
         ⊎_elim
-        (λ (e : j ≡ i). step j ∙ rw (eq-eqb j i e, e) (sym (ap is_blank here)))
-        (λ (ne : j ≡ i → ⊥). step j ∙ rw (ne_eqb j i ne) (h j l ∙ sym (ap is_blank (away j ne))))
+        (λ (e : j ≡ i). rw e (get_or-set_same xs i false false inside ∙ sym (ap is_blank here)))
+        (λ (ne : j ≡ i → ⊥). get_or-set_other xs i j false false ne ∙ h j l ∙ sym (ap is_blank (away j ne)))
         (cases_eq j i)
 
 -- The whole step: the page and the note as the code has them, and the memory after the page was taken.
@@ -141,10 +143,9 @@ module _ (D i a p : ℕ) (note : Note) (bytes : List ℕ) (m m' : Pages) (v : No
     λ u keeps. place_left D i (data_note a) bytes m m' v u keeps.ready k free (Err f) (as_data (Err f) call),
   )
 
-  pub places_made : (t : Table) → Keeps D m v sp t → Programs m p note bytes (Ok tt) m' → (sp' : Space) → sp'.pages ≡ sp.pages
-      → ((j : ℕ) → get_or (flags sp') j false ≡ cond (eqb j i) false (get_or (flags sp) j false)) → sp'.cursor.0 ≡ past sp.pages i
-      → Places D i a bytes m v sp (Ok tt) m' sp'
-  places_made t kept call sp' long each cursor = record {
+  pub places_made : (t : Table) → Keeps D m v sp t → Programs m p note bytes (Ok tt) m' → (sp' : Space) → flags sp' ≡ set (flags sp) i false
+      → sp'.cursor.0 ≡ past (data_page_count sp) i → Places D i a bytes m v sp (Ok tt) m' sp'
+  places_made t kept call sp' used cursor = record {
     size = call.2.size;
     cells = made.2.cells;
     after = ap (λ s. world_of s sp'.cursor.0) (program_reads m m' (data_page_at i) (data_note a) bytes made)
@@ -152,8 +153,9 @@ module _ (D i a p : ℕ) (note : Note) (bytes : List ℕ) (m m' : Pages) (v : No
     keeps = λ u keeps. record {
       ready = place_ready D i (data_note a) bytes m m' v u keeps.ready k free made;
       fits = record {
-        long = long ∙ keeps.fits.long;
-        each = place_flags D i (data_note a) bytes m m' v u keeps.ready k free made (λ j. get_or (flags sp) j false) (λ j. get_or (flags sp') j false) each keeps.fits.each;
+        long = ap length used ∙ length-set (flags sp) i false ∙ keeps.fits.long;
+        each = λ j l. ap (λ xs. get_or xs j false) used
+            ∙ place_flags D i (data_note a) bytes m m' v u keeps.ready k free made (flags sp) (subst (λ n. i < n) (sym keeps.fits.long) k) keeps.fits.each j l;
       };
     };
   }

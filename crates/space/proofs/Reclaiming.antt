@@ -1,18 +1,14 @@
 -- A reclaim: commit, drops, commit, erase, sync; where each step may fail, and what they make of the chip, the journal and the memory together.
-use Rattle.std.proofs.Common.{◌≡◌, ℕ, zero, suc, ◌+◌, ◌-◌, ◌<◌, ◌≤◌, Bool, true, false, cond, ◌&&◌, ◌||◌, eqb, ltb, leb, [], length, get_or, Some, None, Ok, Err, Result, sym, refl, ap, ◌∙◌, subst, ap₂, inl, inr, ⊎_elim, arith}
+use Rattle.std.proofs.Common.{◌≡◌, ℕ, ◌+◌, ◌-◌, ◌<◌, ◌≤◌, Bool, true, false, cond, ◌||◌, eqb, ltb, leb, [], length, get_or, Ok, Err, Result, sym, refl, ap, ◌∙◌, subst, ap₂, inl, inr, ⊎_elim, arith}
 use mathlib.Core.Path.{fun_ext}
 use Rattle.std.proofs.lemmas.List.{nil_from_length}
-use Rattle.std.proofs.lemmas.Bool.{eq-eqb, ne_eqb, eqb-true, lt-ltb, ltb-true, le-ltb, and_right, or_from, cases_eq, cond_both, cond-true, cond-false}
+use Rattle.std.proofs.lemmas.Bool.{eq-eqb, ne_eqb, eqb-true, ltb-true, le-ltb, and_right, cases_eq, cond_both, cond-true, cond-false}
 use Rattle.device.specs.declared.faults.Fault.{Fault}
-use Rattle.device.specs.declared.faults.Refusal.TheVariants.{PowerOff, Unsettled}
-use Rattle.device.specs.Calls.{Served, Halted}
-use Rattle.device.specs.Cells.{Cell, reads, is_unsettled}
+use Rattle.device.specs.Cells.{reads, is_unsettled}
 use Rattle.device.specs.Cells.Cell.{settled}
-use Rattle.device.specs.Chips.{State, Pages, block_of, data_page_at, page_count, unsettled_in, erase_refusal, erased_block, Erases, Syncs}
+use Rattle.device.specs.Chips.{State, Pages, block_of, data_page_at, Erases, Syncs}
 use Rattle.device.specs.Chips.State.{blank}
-use Rattle.device.specs.Faults.{chip_fault}
 use Rattle.device.proofs.Chipwise.{chip_reads}
-use Rattle.device.proofs.Settling.{in_order_none}
 use Rattle.layout.specs.declared.areas.Area.{Area}
 use Rattle.layout.specs.Geometry.{data_pages, log_pages, first_page, other_area, log_page_at}
 use Rattle.layout.specs.Laws.{log_page}
@@ -26,35 +22,23 @@ use Rattle.journal.specs.Points.{Point, point, Left, Either}
 use Rattle.journal.specs.Ready.{Ready}
 use Rattle.space.specs.Rooms.{ReclaimPoints, Keeps, Reclaims}
 use Rattle.journal.specs.Steps.{AllSettled, Lands, Fails, Commits}
-use Rattle.space.specs.Worlds.{world, is_blank, blank_page, flags, Fits, erased_pages, reclaimed}
+use Rattle.space.specs.Worlds.{world, is_blank, blank_page, flags, data_page_count, Fits, erased_pages, reclaimed}
 use Rattle.space.specs.declared.blanks.Space.{Space}
+use Rattle.journal.proofs.Allowed.{erase_allowed, erase_fails as allowed_erase_fails, erase_beside}
 use Rattle.journal.proofs.Leaving.{Firm, left_more, left_of_holds}
-use Rattle.journal.proofs.Settledness.{settled_as, call_lost, wanted_stays, lands_settled, lands_shown, sync_lands, sync_lost, sync_stays}
+use Rattle.journal.proofs.Settledness.{settled_as, lands_settled, lands_shown, sync_lands, sync_lost, sync_stays}
 use Rattle.journal.proofs.Spared.{spared_in, dropping_ready}
 use Rattle.journal.proofs.Turning.{SamePoint, left_turn}
 
 -- Around an erase.
 
-unsettled_nowhere : (cells : ℕ → Cell State) (b k : ℕ) → ((p : ℕ) → is_unsettled (cells p) ≡ false) → unsettled_in cells b k ≡ false
-unfolding unsettled_in
-unsettled_nowhere cells b zero h = refl
-unsettled_nowhere cells b (suc k) h =
-    or_from (eqb (block_of k) b && is_unsettled (cells k)) (unsettled_in cells b k) (and_right (eqb (block_of k) b) (is_unsettled (cells k)) (h k)) (unsettled_nowhere cells b k h)
-
--- with everything settled, an erase block of the chip may be erased
-pub erase_allowed : (m : Pages) (b : ℕ) → m.on ≡ true → b < m.size → AllSettled m → erase_refusal m b ≡ None
-erase_allowed m b on inside h =
-    let there = cond (unsettled_in m.cell b (page_count m)) (Some (chip_fault b Unsettled)) None in
-    in_order_none m.on (chip_fault b PowerOff) true (ltb b m.size) (chip_fault b) there on refl (lt-ltb b m.size inside)
-    ∙ cond-false (unsettled_in m.cell b (page_count m)) (Some (chip_fault b Unsettled)) None (unsettled_nowhere m.cell b (page_count m) h)
-
-pub erase_lost : (m n : Pages) (b : ℕ) (f : Fault) → m.on ≡ true → b < m.size → AllSettled m → Erases m b (Err f) n → Fails m f n
-erase_lost m n b f on inside h call =
-    call_lost (erase_refusal m b) b m n (Served (erased_block m b)) (Halted m (erased_block m b)) (λ _. Unit {0}) (Unit {0}) f (erase_allowed m b on inside h) call
+-- with everything settled, an erase of an erase block of the chip is served, or power fails in it
+erase_lost : (m n : Pages) (b : ℕ) (f : Fault) → m.on ≡ true → b < m.size → AllSettled m → Erases m b (Err f) n → Fails m f n
+erase_lost m n b f on inside h call = allowed_erase_fails m n b f (erase_allowed m b on inside (λ q _. h q)) call
 
 -- whatever an erase answers, a settled page outside the block stays
 pub erase_stays : (m n : Pages) (b : ℕ) (r : Result (Unit {0}) Fault) (q : ℕ) (x : State) → Erases m b r n → (block_of q ≡ b → ⊥) → m.cell q ≡ settled x → n.cell q ≡ settled x
-erase_stays m n b r q x call ne was = wanted_stays _ _ m n (erased_block m b) _ _ r q x call was (rw (ne_eqb (block_of q) b ne) was)
+erase_stays m n b r q x call ne was = erase_beside m n b r call q ne (ap is_unsettled was) ∙ was
 
 pub erase_shown : (m n : Pages) (b : ℕ) → Erases m b (Ok tt) n → shown n ≡ erased_pages b (shown m)
 erase_shown m n b call = fun_ext (λ q. let h = chip_reads.after_erase m n b call in ⊎_elim
@@ -313,8 +297,8 @@ module _ (D b : ℕ) (m m₂ : Pages) (v v₃ : Noted) (sp : Space) (h : Committ
           lands_shown m₂ m₄ _ lands
           ∙ ap (erased_pages b) (lands_shown h.between m₂ _ h.second.0 ∙ ap₂ (committed_pages D) staged_is (lands_shown m h.between _ h.first.0))
 
-      module _ (sp' : Space) (long : sp'.pages ≡ sp.pages)
-          (each : (i : ℕ) → i < sp.pages → get_or (flags sp') i false ≡ in_block b i || get_or (flags sp) i false) (stays : sp'.cursor ≡ sp.cursor) where
+      module _ (sp' : Space) (long : data_page_count sp' ≡ data_page_count sp)
+          (each : (i : ℕ) → i < data_page_count sp → get_or (flags sp') i false ≡ in_block b i || get_or (flags sp) i false) (stays : sp'.cursor ≡ sp.cursor) where
         fits₄ : Fits D m sp → Fits D m₄ sp'
         fits₄ k = record {
           long = long ∙ k.long;

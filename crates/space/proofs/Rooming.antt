@@ -13,7 +13,7 @@ use Rattle.table.specs.Tables.{Table}
 use Rattle.table.specs.Views.{page_number}
 use Rattle.journal.specs.Notes.{Noted}
 use Rattle.space.specs.Rooms.{NoneBlank, ReclaimPoints, RoomPoints, Keeps, Reclaims, FindsRoom}
-use Rattle.space.specs.Worlds.{world, is_blank, blank_page, flags, Fits}
+use Rattle.space.specs.Worlds.{world, is_blank, blank_page, flags, data_page_count, Fits}
 use Rattle.space.specs.declared.blanks.Space.{Space}
 use Rattle.journal.proofs.Leaving.{left_more}
 
@@ -29,10 +29,10 @@ round_same f g pages D cursor i same agree h =
 
 -- what the memory finds
 abbrev pub ByMemory : Space → Option ℕ → Type 0
-ByMemory sp r = FindsRound (λ i. get_or (flags sp) i false) sp.pages sp.cursor.0 r
+ByMemory sp r = FindsRound (λ i. get_or (flags sp) i false) (data_page_count sp) sp.cursor.0 r
 
 memory_first : (D : ℕ) (m : Pages) (sp : Space) (i : ℕ) → Fits D m sp → ByMemory sp (Some i) → FirstRound (blank_page (shown m)) D sp.cursor.0 i
-memory_first D m sp i fits h = round_same (λ i. get_or (flags sp) i false) (blank_page (shown m)) sp.pages D sp.cursor.0 i fits.long fits.each h
+memory_first D m sp i fits h = round_same (λ i. get_or (flags sp) i false) (blank_page (shown m)) (data_page_count sp) D sp.cursor.0 i fits.long fits.each h
 
 memory_none : (D : ℕ) (m : Pages) (v : Noted) (sp : Space) → Fits D m sp → ByMemory sp None → NoneBlank D (world m v sp)
 memory_none D m v sp fits h i l = sym (fits.each i l) ∙ h i (omega (arith, fits.long))

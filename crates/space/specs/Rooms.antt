@@ -11,7 +11,8 @@ use Rattle.recovery.specs.Looking.{shown}
 use Rattle.table.specs.Choices.{FirstRound, Victim}
 use Rattle.table.specs.Tables.{Table}
 use Rattle.journal.specs.Drops.{spared}
-use Rattle.journal.specs.Notes.{Noted}
+use Rattle.journal.specs.declared.memory.Journal.{Journal}
+use Rattle.journal.specs.Notes.{Noted, noted, pages_of}
 use Rattle.journal.specs.Points.{Point, point, Left}
 use Rattle.journal.specs.Ready.{Ready}
 use Rattle.journal.specs.Steps.{AllSettled, Fails}
@@ -45,6 +46,10 @@ RoomPoints D blocks t w x = (NoneBlank D w × ((b : ℕ) × Victim w.noted.table
 pub record Keeps (D : ℕ) (m : Pages) (v : Noted) (sp : Space) (t : Table) : Type 0 where
   pub ready : Ready D m v t
   pub fits : Fits D m sp
+
+-- the same, with some committed table
+abbrev pub KeepsSomeTable : Pages → Journal → Space → Type 0
+KeepsSomeTable m j sp = (t : Table) × Keeps (pages_of j) m (noted j) sp t
 
 -- A reclaim of an erase block.
 abbrev pub Reclaims : ℕ → ℕ → Pages → Noted → Space → Result (Unit {0}) Fault → Pages → Noted → Space → Type 0

@@ -1,5 +1,5 @@
 -- What the chip's pages, the journal and the cursor are together, and what a commit and a reclaim make of them.
-use Rattle.std.specs.Prelude.{◌≡◌, ℕ, ◌+◌, ◌%◌, ◌<◌, Bool, true, false, cond, List, take, ◌==◌, slice_index_or}
+use Rattle.std.specs.Prelude.{◌≡◌, ℕ, ◌+◌, ◌%◌, ◌<◌, Bool, true, false, cond, List, length, ◌==◌, slice_index_or}
 use Rattle.device.specs.Chips.{State, Pages, block_of, data_page_at}
 use Rattle.device.specs.Chips.State.{blank, torn, held}
 use Rattle.recovery.specs.Looking.{shown}
@@ -28,11 +28,15 @@ blank_page pages i = is_blank (pages (data_page_at i))
 
 -- what is remembered of each data page: whether it is blank
 abbrev pub flags : Space → List Bool
-flags sp = take sp.pages sp.blank
+flags sp = sp.blank.items
+
+-- the number of data pages
+abbrev pub data_page_count : Space → ℕ
+data_page_count sp = length (flags sp)
 
 -- the memory agrees with the chip
 pub record Fits (D : ℕ) (m : Pages) (sp : Space) : Type 0 where
-  pub long : sp.pages ≡ D
+  pub long : data_page_count sp ≡ D
   pub each : (i : ℕ) → i < D → slice_index_or (flags sp) i false ≡ blank_page (shown m) i
 
 -- A commit.

@@ -6,7 +6,7 @@ ghost use Rattle.journal.specs.Drops.{dropping};
 ghost use Rattle.journal.specs.Notes.{noted, pages_of};
 ghost use Rattle.journal.specs.Ready.{Ready};
 ghost use Rattle.journal.specs.Steps.{Commits};
-ghost use Rattle.space.specs.Rooms.{Keeps, Reclaims, FindsRoom, Places};
+ghost use Rattle.space.specs.Rooms.{KeepsSomeTable, Reclaims, FindsRoom, Places};
 ghost use Rattle.space.specs.Worlds.{blank_page};
 
 use crate::blanks::Space;
@@ -16,11 +16,9 @@ use layout::note_of_data;
 
 // Drops every marked page of the erase block, and commits that.
 fn drop_all<C: Chip>(chip: &mut C, journal: &mut Journal, block: EraseBlock) -> Result<(), Fault>
-    requires sound { C.Chip.sound chip.old }
     requires none { (noted journal.old).staged ≡ [] }
     requires behind { 8 ≤ block.0 }
     requires ready { (t : Table) × Ready (pages_of journal.old) (C.Chip.meaning chip.old) (dropping block.0 (noted journal.old)) t }
-    ensures sound { C.Chip.sound chip.new }
     ensures size { journal.new.geometry ≡ journal.old.geometry }
     ensures commits { Commits (pages_of journal.old) (C.Chip.meaning chip.old) (dropping block.0 (noted journal.old)) result (C.Chip.meaning chip.new) (noted journal.new) }
 {
@@ -36,11 +34,9 @@ impl Space {
         journal: &mut Journal,
         block: EraseBlock,
     ) -> Result<(), Fault>
-        requires sound { C.Chip.sound chip.old }
-        requires keeps { (t : Table) × Keeps (pages_of journal.old) (C.Chip.meaning chip.old) (noted journal.old) self.old t }
+        requires keeps { KeepsSomeTable (C.Chip.meaning chip.old) journal.old self.old }
         requires behind { 8 ≤ block.0 }
         requires within { block.0 < journal.old.geometry.blocks }
-        ensures sound { C.Chip.sound chip.new }
         ensures size { journal.new.geometry ≡ journal.old.geometry }
         ensures reclaims { Reclaims (pages_of journal.old) block.0 (C.Chip.meaning chip.old) (noted journal.old) self.old result (C.Chip.meaning chip.new) (noted journal.new) self.new }
     {
@@ -58,22 +54,18 @@ impl Space {
         chip: &mut C,
         journal: &mut Journal,
     ) -> Result<Option<DataPage>, Fault>
-        requires sound { C.Chip.sound chip.old }
-        requires keeps { (t : Table) × Keeps (pages_of journal.old) (C.Chip.meaning chip.old) (noted journal.old) self.old t }
-        ensures sound { C.Chip.sound chip.new }
+        requires keeps { KeepsSomeTable (C.Chip.meaning chip.old) journal.old self.old }
         ensures size { journal.new.geometry ≡ journal.old.geometry }
         ensures finds { FindsRoom (pages_of journal.old) journal.old.geometry.blocks (C.Chip.meaning chip.old) (noted journal.old) self.old result (C.Chip.meaning chip.new) (noted journal.new) self.new }
     {
-        match self.first() {
-            Some(page) => Ok(Some(page)),
-            None => match journal.table().victim(journal.geometry()) {
-                Some(block) => {
-                    self.reclaim(chip, journal, block)?;
-                    Ok(self.first())
-                }
-                None => Ok(None),
-            },
+        if let Some(page) = self.first() {
+            return Ok(Some(page));
         }
+        let Some(block) = journal.table().victim(journal.geometry()) else {
+            return Ok(None);
+        };
+        self.reclaim(chip, journal, block)?;
+        Ok(self.first())
     }
 
     // Programs a blank data page with a block of the disk, and moves the cursor past it.
@@ -85,12 +77,10 @@ impl Space {
         address: DiskAddress,
         bytes: &[u8],
     ) -> Result<(), Fault>
-        requires sound { C.Chip.sound chip.old }
-        requires keeps { (t : Table) × Keeps (pages_of journal.now) (C.Chip.meaning chip.old) (noted journal.now) self.old t }
+        requires keeps { KeepsSomeTable (C.Chip.meaning chip.old) journal.now self.old }
         requires whole { length bytes.now ≡ 512 }
         requires inside { page.0 < pages_of journal.now }
         requires free { blank_page (shown (C.Chip.meaning chip.old)) page.0 ≡ true }
-        ensures sound { C.Chip.sound chip.new }
         ensures places { Places (pages_of journal.now) page.0 address.0 bytes.now (C.Chip.meaning chip.old) (noted journal.now) self.old result (C.Chip.meaning chip.new) self.new }
     {
         chip.program(page.chip_page(), note_of_data(address), bytes)?;

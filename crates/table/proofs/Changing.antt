@@ -1,9 +1,9 @@
 -- What becomes of a table by a put, a drop and a mark: entry by entry, who holds an address then, and that it stays proper.
-use Rattle.std.proofs.Common.{◌≡◌, ℕ, ◌<◌, Bool, true, false, cond, not, ◌&&◌, ltb, ◌≢◌, List, [], ◌∷◌, ◌++◌, length, set, Some, None, Option, sym, refl, ap, ◌∙◌, subst, ⊎_elim, arith}
+use Rattle.std.proofs.Common.{◌≡◌, ℕ, ◌<◌, Bool, true, false, cond, not, ◌&&◌, ltb, ◌≢◌, List, [], ◌∷◌, ◌++◌, length, set, is_ok, Some, None, Ok, Err, Option, Result, sym, refl, ap, ◌∙◌, subst, ⊎_elim, arith}
 use lib.ListN.{get_or-map, length-replicate, get_or-replicate}
 use Rattle.std.proofs.ByRecursion.{All-from_get_or}
 use Rattle.std.proofs.lemmas.List.{get_or_past, get_or-set_same, get_or-set_other, length-set, length-map, ext_get_or}
-use Rattle.std.proofs.lemmas.Bool.{and_parts, ltb-true, eqb-true, both_ways, cases_Bool, cases_eq, cases_lt, cond-true, cond-false, cond_both}
+use Rattle.std.proofs.lemmas.Bool.{and_parts, ltb-true, eqb-true, both_ways, false_from_ne_true, cases_Bool, cases_eq, cases_lt, cond-true, cond-false, cond_both}
 use Rattle.std.specs.List.{AllByRecursion}
 use Rattle.layout.specs.declared.entries.Entry.{Entry}
 use Rattle.layout.specs.declared.entries.Mark.{Mark}
@@ -12,6 +12,7 @@ use Rattle.layout.specs.declared.records.Record.{Record}
 use Rattle.layout.specs.declared.records.Record.TheVariants.{PutClean, PutDirty, Drop, MarkClean}
 use Rattle.layout.specs.Entries.{ProperEntry}
 use Rattle.layout.specs.Records.{ProperRecord}
+use Rattle.table.specs.declared.changes.Breach.{Breach}
 use Rattle.table.specs.Tables.{Table, entry, empty, empty_table, has_mark, entry_at, marked_at, holds, held, mark_of, emptied, without, cleaned_entry, cleaned, entered, put, apply, next_table, replayed, ProperTable}
 use Rattle.table.specs.Views.{AloneAt, entry_with, remarked_entry, remarked, may_enter, Turns}
 use Rattle.table.proofs.Tablewise.{holds_parts, holds_from, held_at, unheld_at, unheld_from, mark_at, mark_unheld, held_fits, marked_fits, entry_proper}
@@ -105,7 +106,7 @@ mark_entered t p m a l h =
 
 module _ (t : Table) (a p : ℕ) (only : AloneAt t a p) where
   others : (i : ℕ) → i ≢ p → holds a (entry_at t i) ≡ false
-  others i ne = ⊎_elim (λ y. absurd (ne (only.alone i y))) (λ n. n) (cases_Bool (holds a (entry_at t i)))
+  others i ne = false_from_ne_true (holds a (entry_at t i)) (λ y. ne (only.alone i y))
 
   pub remarked_one : (m : Mark) → remarked t m a ≡ set t p (entry_with m a)
   remarked_one m =
@@ -256,13 +257,11 @@ replayed_breach (r ∷ rs) = replayed_breach rs
 
 -- The answers of the calls that change the table
 
-pub turns_drop : (t u : Table) (a : ℕ) (r : Bool) → r ≡ held t a → u ≡ without t a → Turns t (cond (held t a) (Some (without t a)) None) r u
-turns_drop t u a true was after = cond-true (held t a) (Some (without t a)) None (sym was) ∙ ap Some (sym after)
-turns_drop t u a false was after = (cond-false (held t a) (Some (without t a)) None (sym was), after ∙ without_none t a (sym was))
-
-pub turns_clean : (t u : Table) (a : ℕ) (r : Bool) → r ≡ held t a → u ≡ cleaned t a → Turns t (cond (held t a) (Some (cleaned t a)) None) r u
-turns_clean t u a true was after = cond-true (held t a) (Some (cleaned t a)) None (sym was) ∙ ap Some (sym after)
-turns_clean t u a false was after = (cond-false (held t a) (Some (cleaned t a)) None (sym was), after ∙ cleaned_none t a (sym was))
+-- a mark given to the page that holds the address, or a refusal where none does
+pub turns_remarked : (t u : Table) (m : Mark) (a : ℕ) (r : Result (Unit {0}) Breach) → is_ok r ≡ held t a → u ≡ remarked t m a → Turns t (cond (held t a) (Some (remarked t m a)) None) r u
+turns_remarked t u m a (Ok x) was after = cond-true (held t a) (Some (remarked t m a)) None (sym was) ∙ ap Some (sym after)
+turns_remarked t u m a (Err x) was after =
+    (cond-false (held t a) (Some (remarked t m a)) None (sym was), after ∙ remarked_none t a (sym was) m)
 
 -- what a page that may enter an address is
 pub enterable : (t : Table) (p : ℕ) (m : Mark) → may_enter t p m ≡ true → (has_mark m ≡ true) × (p < length t)

@@ -1,56 +1,17 @@
--- The choices: a page found going round, the pages of each erase block counted, and the cheapest block.
-use Rattle.std.proofs.Common.{◌≡◌, ℕ, suc, ◌+◌, ◌-◌, ◌<◌, ◌≤◌, Bool, true, false, cond, ◌&&◌, eqb, ltb, leb, List, [], ◌∷◌, ◌++◌, length, take, set, Some, None, Option, sym, refl, ap, ◌∙◌, subst, ap₂, ⊎_elim, add-zero, arith}
+-- The choices: the pages of each erase block counted, places and their numbers, and the cheapest block.
+use Rattle.std.proofs.Common.{◌≡◌, ℕ, suc, ◌+◌, ◌<◌, ◌≤◌, Bool, true, false, cond, ◌&&◌, eqb, List, [], ◌∷◌, ◌++◌, length, take, set, Some, None, Option, MatchOption, IsSomeAnd, sym, refl, ap, ◌∙◌, subst, ap₂, ⊎_elim, add-zero, arith}
 use Rattle.std.proofs.lemmas.List.{get_or-set_same, get_or-set_other, length-take-le, take_all, take_more}
-use Rattle.std.proofs.lemmas.Bool.{and_parts, and_cases, ltb-true, ltb-false, le-leb, lt-leb, eq-eqb, ne_eqb, both_ways, cases_Bool, cases_eq, cases_lt, cond-true, cond-false}
+use Rattle.std.proofs.lemmas.Bool.{eq-eqb, ne_eqb, cases_eq}
 use Rattle.device.specs.declared.places.DataPage.{DataPage}
 use Rattle.device.specs.declared.places.EraseBlock.{EraseBlock}
 use Rattle.device.specs.Chips.{block_of, data_page_at}
 use Rattle.layout.specs.declared.entries.Entry.{Entry}
 use Rattle.layout.specs.declared.entries.Mark.{Mark}
 use Rattle.table.specs.declared.choices.Usage.{Usage}
-use Rattle.table.specs.declared.choices.Candidate.{Candidate}
-use Rattle.table.specs.declared.choices.Purpose.{Purpose}
 use Rattle.table.specs.Tables.{Table, empty, has_mark, is_dirty, entry_at}
-use Rattle.table.specs.Choices.{steps_to, FirstRound, FindsRound, tally, Cheapest, Chooses}
-use Rattle.table.specs.Usages.{usage, usage_at, usage_in, one_more, fit_for, cost_for, cheaper, weighed, FirstFrom, FindsFrom}
-use Rattle.table.specs.Views.{page_number}
-
--- Going round
-
-module _ (test : ℕ → Bool) (pages cursor : ℕ) where
-  steps_ahead : (i : ℕ) → cursor ≤ i → steps_to pages cursor i ≡ i - cursor
-  steps_ahead i l = cond-true (leb cursor i) (i - cursor) (i + pages - cursor) (le-leb cursor i l)
-
-  steps_round : (i : ℕ) → i < cursor → steps_to pages cursor i ≡ i + pages - cursor
-  steps_round i l = cond-false (leb cursor i) (i - cursor) (i + pages - cursor) (lt-leb cursor i l)
-
-  pub round_ahead : (i : ℕ) → FirstFrom test pages cursor i → FirstRound test pages cursor i
-  round_ahead i first = record {
-    inside = first.inside;
-    found = first.found;
-    before = λ j l less.
-        ⊎_elim
-        (λ behind. absurd (omega (arith, first.inside, first.from, steps_round j behind, steps_ahead i first.from)))
-        (λ ahead. first.before j ahead (omega (arith, steps_ahead j ahead, steps_ahead i first.from)))
-        (cases_lt j cursor);
-  }
-
-  pub round_behind : (i : ℕ) → FindsFrom test pages cursor None → FirstFrom test pages 0 i → FirstRound test pages cursor i
-  round_behind i none first =
-      let behind : i < cursor = ⊎_elim (λ l. l) (λ ge. absurd (both_ways (test i) (none i ge first.inside) first.found)) (cases_lt i cursor) in
-      record {
-        inside = first.inside;
-        found = first.found;
-        before = λ j l less.
-            ⊎_elim
-            (λ b. first.before j (omega arith) (omega (arith, steps_round j b, steps_round i behind)))
-            (λ ahead. none j ahead l)
-            (cases_lt j cursor);
-      }
-
-  pub round_again : (r : Option DataPage) → FindsFrom test pages cursor None → FindsFrom test pages 0 (page_number r) → FindsRound test pages cursor (page_number r)
-  round_again None none all = λ j l. all j (omega arith) l
-  round_again (Some p) none first = round_behind p.0 none first
+use Rattle.table.specs.Choices.{tally, Chooses}
+use Rattle.table.specs.Usages.{usage, usage_at, usage_in, one_more, FirstFrom, FindsFrom}
+use Rattle.table.specs.Views.{page_number, block_number}
 
 -- Counting
 
@@ -119,69 +80,26 @@ counted_small us t i at inside le few counted =
     let d = tally_le (λ e. is_dirty e.mark) (take i t) 0 at in
     (omega (arith, ap (λ u. u.marked) e), omega (arith, ap (λ u. u.dirty) e))
 
+-- Places and their numbers
+
+-- the first page from `low` on, as a place
+pub found_from : (test : ℕ → Bool) (pages low : ℕ) (r : Option ℕ) (o : Option DataPage) (R : ℕ → DataPage → Type 0) → MatchOption r ((k : ℕ) → low ≤ k → k < pages → test k ≡ false) (λ i. (low ≤ i) × (i < pages) × (test i ≡ true) × ((k : ℕ) → low ≤ k → k < i → test k ≡ false)) → MatchOption r (o ≡ None) (λ i. IsSomeAnd o (R i)) → ((i : ℕ) (p : DataPage) → i < pages → R i p → p.0 ≡ i) → FindsFrom test pages low (page_number o)
+found_from test pages low None None R first placed same = first
+found_from test pages low None (Some p) R first placed same = absurd (cc)
+found_from test pages low (Some i) None R first placed same = absurd placed
+found_from test pages low (Some i) (Some p) R first placed same =
+    subst (FirstFrom test pages low) (sym (same i p first.1 placed)) (record { inside = first.1; from = first.0; found = first.2; before = first.3 })
+
+pub numbered : (r : Option ℕ) (o : Option EraseBlock) (R : ℕ → EraseBlock → Type 0) → MatchOption r (o ≡ None) (λ b. IsSomeAnd o (R b)) → ((b : ℕ) (x : EraseBlock) → R b x → x.0 ≡ b) → block_number o ≡ r
+numbered None None R placed same = refl
+numbered None (Some x) R placed same = absurd (cc)
+numbered (Some b) None R placed same = absurd placed
+numbered (Some b) (Some x) R placed same = ap Some (same b x placed)
+
 -- The cheapest
 
-abbrev candidate_number : Option Candidate → Option ℕ
-candidate_number None = None
-candidate_number (Some found) = Some found.block.0
-
--- the cost that goes with the best so far
-abbrev Priced : (ℕ → ℕ) → Option Candidate → Type 0
-Priced cost None = Unit {0}
-Priced cost (Some found) = found.cost ≡ cost found.block.0
-
-abbrev pub Best : (ℕ → Bool) → (ℕ → ℕ) → ℕ → Option Candidate → Type 0
-Best fits cost end best = Chooses fits cost 8 end (candidate_number best) × Priced cost best
-
-module _ (fits : ℕ → Bool) (cost : ℕ → ℕ) (end : ℕ) (from : 8 ≤ end) where
-  at_end : (P : ℕ → Type 0) → ((c : ℕ) → 8 ≤ c → c < end → P c) → P end → (c : ℕ) → 8 ≤ c → c < end + 1 → P c
-  at_end P below last c ge lt = ⊎_elim (λ l. below c ge l) (λ l. subst P (omega arith) last) (cases_lt c end)
-
-  -- nothing was chosen, or what was chosen costs more
-  takes : (best : Option Candidate) → Best fits cost end best → fits end ≡ true → cheaper (cost end) best ≡ true → Cheapest fits cost 8 (end + 1) end
-  takes None b fit less = record {
-    from = from;
-    below = omega arith;
-    fit = fit;
-    least = at_end (λ c. fits c ≡ true → cost end ≤ cost c) (λ c ge lt h. absurd (both_ways (fits c) (b.0 c ge lt) h)) (λ h. omega arith);
-    lowest = λ c ge lt h. absurd (both_ways (fits c) (b.0 c ge lt) h);
-  }
-  takes (Some found) b fit less =
-      let under = ltb-true (cost end) found.cost less in record {
-        from = from;
-        below = omega arith;
-        fit = fit;
-        least = at_end (λ c. fits c ≡ true → cost end ≤ cost c) (λ c ge lt h. omega (arith, under, b.1, b.0.least c ge lt h)) (λ h. omega arith);
-        lowest = λ c ge lt h. omega (arith, under, b.1, b.0.least c ge lt h);
-      }
-
-  stays : (best : Option Candidate) → Best fits cost end best → (fits end && cheaper (cost end) best) ≡ false → Best fits cost (end + 1) best
-  stays None b off =
-      (at_end (λ c. fits c ≡ false) b.0 (⊎_elim (λ n. n) (λ y. absurd (both_ways true y refl)) (and_cases (fits end) true off)), tt)
-  stays (Some found) b off = (
-    record {
-      from = b.0.from;
-      below = omega (arith, b.0.below);
-      fit = b.0.fit;
-      least = at_end (λ c. fits c ≡ true → cost found.block.0 ≤ cost c) b.0.least
-          (λ h. ⊎_elim (λ n. absurd (both_ways (fits end) n h)) (λ y. omega (arith, b.1, ltb-false (cost end) found.cost y)) (and_cases (fits end) (ltb (cost end) found.cost) off));
-      lowest = b.0.lowest;
-    },
-    b.1,
-  )
-
-  pub best_more : (best : Option Candidate) (block : EraseBlock) → block.0 ≡ end → Best fits cost end best → Best fits cost (end + 1) (weighed best block (fits end) (cost end))
-  best_more best block is b =
-      ⊎_elim
-      (λ y.
-      let q = and_parts (fits end) (cheaper (cost end) best) y in
-      subst (Best fits cost (end + 1)) (sym (cond-true (fits end && cheaper (cost end) best) (Some (record { block = block; cost = cost end })) best y))
-      (subst (Cheapest fits cost 8 (end + 1)) (sym is) (takes best b q.0 q.1), ap cost (sym is)))
-      (λ n. subst (Best fits cost (end + 1)) (sym (cond-false (fits end && cheaper (cost end) best) (Some (record { block = block; cost = cost end })) best n)) (stays best b n))
-      (cases_Bool (fits end && cheaper (cost end) best))
-
 -- the same choice by tests and costs that agree
-pub chooses_same : (fits also : ℕ → Bool) (cost price : ℕ → ℕ) (end : ℕ) → ((c : ℕ) → c < end → fits c ≡ also c) → ((c : ℕ) → c < end → cost c ≡ price c) → (r : Option ℕ) → Chooses fits cost 8 end r → Chooses also price 8 end r
+chooses_same : (fits also : ℕ → Bool) (cost price : ℕ → ℕ) (end : ℕ) → ((c : ℕ) → c < end → fits c ≡ also c) → ((c : ℕ) → c < end → cost c ≡ price c) → (r : Option ℕ) → Chooses fits cost 8 end r → Chooses also price 8 end r
 chooses_same fits also cost price end f k None h = λ c ge lt. sym (f c lt) ∙ h c ge lt
 chooses_same fits also cost price end f k (Some b) h = record {
   from = h.from;
@@ -191,26 +109,10 @@ chooses_same fits also cost price end f k (Some b) h = record {
   lowest = λ c ge lt y. let under : c < end = omega (arith, h.below) in omega (arith, k b h.below, k c under, h.lowest c ge lt (f c under ∙ y));
 }
 
-module _ (purpose : Purpose) (us : List Usage) where
-  abbrev fit_at : ℕ → Bool
-  fit_at b = fit_for purpose (usage_at us b)
-
-  abbrev cost_at : ℕ → ℕ
-  cost_at b = cost_for purpose (usage_at us b)
-
-  pub best_next : (b : ℕ) (best next : Option Candidate) (f : Bool) (k : ℕ) → 8 ≤ b → f ≡ fit_at b → k ≡ cost_at b → next ≡ weighed best (record { 0 = b }) f k → Best fit_at cost_at b best → Best fit_at cost_at (b + 1) next
-  best_next b best next f k from is costs made so =
-      subst (Best fit_at cost_at (b + 1)) (sym (made ∙ ap₂ (weighed best (record { 0 = b })) is costs)) (best_more fit_at cost_at b from best (record { 0 = b }) refl so)
-
-  pub best_chosen : (b blocks : ℕ) (best : Option Candidate) (found : Candidate) → b ≡ blocks → best ≡ Some found → Best fit_at cost_at b best → Cheapest fit_at cost_at 8 blocks found.block.0
-  best_chosen b blocks best found end is so = subst (λ n. Cheapest fit_at cost_at 8 n found.block.0) end (subst (Best fit_at cost_at b) is so).0
-
-  pub none_chosen : (b blocks : ℕ) (best : Option Candidate) → b ≡ blocks → best ≡ None → Best fit_at cost_at b best → (c : ℕ) → 8 ≤ c → c < blocks → fit_at c ≡ false
-  none_chosen b blocks best end is so c ge lt = (subst (Best fit_at cost_at b) is so).0 c ge (omega arith)
-
-  -- a choice by the counts is one by the table
-  pub chosen_by_table : (t u : Table) (b blocks : ℕ) (r : Option ℕ) → t ≡ u → b ≡ blocks → blocks ≤ 64 → ((c : ℕ) → c < 64 → usage_at us c ≡ usage_in t c) → Chooses fit_at cost_at 8 b r → Chooses (λ c. fit_for purpose (usage_in u c)) (λ c. cost_for purpose (usage_in u c)) 8 blocks r
-  chosen_by_table t u b blocks r same end few each so =
-      let at : (c : ℕ) → c < blocks → usage_at us c ≡ usage_in u c = λ c l. each c (omega arith) ∙ ap (λ v. usage_in v c) same in
-      chooses_same fit_at (λ c. fit_for purpose (usage_in u c)) cost_at (λ c. cost_for purpose (usage_in u c)) blocks (λ c l. ap (fit_for purpose) (at c l)) (λ c l. ap (cost_for purpose) (at c l)) r
-      (subst (λ n. Chooses fit_at cost_at 8 n r) end so)
+-- a choice by the counts is one by the table
+pub chosen_by_table : (fit : Usage → Bool) (cost : Usage → ℕ) (us : List Usage) (t : Table) (end blocks : ℕ) (r s : Option ℕ) → end ≡ blocks → blocks ≤ 64 → s ≡ r → ((c : ℕ) → c < 64 → usage_at us c ≡ usage_in t c) → Chooses (λ c. fit (usage_at us c)) (λ c. cost (usage_at us c)) 8 end r → Chooses (λ c. fit (usage_in t c)) (λ c. cost (usage_in t c)) 8 blocks s
+chosen_by_table fit cost us t end blocks r s same few is each so =
+    subst (Chooses (λ c. fit (usage_in t c)) (λ c. cost (usage_in t c)) 8 blocks) (sym is)
+    (chooses_same (λ c. fit (usage_at us c)) (λ c. fit (usage_in t c)) (λ c. cost (usage_at us c)) (λ c. cost (usage_in t c)) blocks
+    (λ c l. ap fit (each c (omega arith))) (λ c l. ap cost (each c (omega arith))) r
+    (subst (λ n. Chooses (λ c. fit (usage_at us c)) (λ c. cost (usage_at us c)) 8 n r) same so))

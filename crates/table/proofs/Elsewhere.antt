@@ -1,6 +1,6 @@
 -- What a change of the table leaves of the other addresses, and what it makes of the marks.
-use Rattle.std.proofs.Common.{◌≡◌, ℕ, zero, suc, Bool, true, false, cond, ◌&&◌, ◌||◌, eqb, ◌⊎◌, [], ◌∷◌, set, sym, refl, ap, ◌∙◌, ap₂, inl, inr, ⊎_elim}
-use Rattle.std.proofs.lemmas.Bool.{both_ways, cases_Bool, cond-true, cond-false}
+use Rattle.std.proofs.Common.{◌≡◌, ℕ, zero, suc, true, false, cond, ◌&&◌, ◌||◌, eqb, ◌⊎◌, [], ◌∷◌, set, sym, refl, ap, ◌∙◌, ap₂, inl, inr, ⊎_elim}
+use Rattle.std.proofs.lemmas.Bool.{both_ways, false_from_ne_true, cases_Bool, cond-true, cond-false}
 use Rattle.layout.specs.declared.entries.Entry.{Entry}
 use Rattle.layout.specs.declared.entries.Mark.{Mark}
 use Rattle.layout.specs.declared.entries.Mark.TheVariants.{Empty, Clean}
@@ -8,10 +8,6 @@ use Rattle.table.specs.Tables.{Table, entry, entry_at, marked_at, holds, held, m
 use Rattle.table.specs.Views.{entry_with, remarked_entry, remarked}
 use Rattle.table.proofs.Tablewise.{holds_parts, holds_from, holds_one}
 use Rattle.table.proofs.Changing.{with_holds, remarked_holds, without_at}
-
--- a test that would be true is none
-refuted : (b : Bool) → (b ≡ true → ⊥) → b ≡ false
-refuted b not_so = ⊎_elim (λ y. absurd (not_so y)) (λ n. n) (cases_Bool b)
 
 -- Another mark for the address a, and another address b
 
@@ -21,8 +17,8 @@ module _ (m : Mark) (a b : ℕ) (other : a ≡ b → ⊥) where
       ⊎_elim
       (λ y.
       inr (
-        ap (holds b) (cond-true (holds a e) (entry_with m a) e y) ∙ refuted (holds b (entry_with m a)) (λ h. other (with_holds m a b h)),
-        refuted (holds b e) (λ h. other (holds_one a b e y h)),
+        ap (holds b) (cond-true (holds a e) (entry_with m a) e y) ∙ false_from_ne_true (holds b (entry_with m a)) (λ h. other (with_holds m a b h)),
+        false_from_ne_true (holds b e) (λ h. other (holds_one a b e y h)),
       ))
       (λ n. inl (cond-false (holds a e) (entry_with m a) e n))
       (cases_Bool (holds a e))
@@ -99,11 +95,11 @@ module _ (b : ℕ) (e : Entry) (not_new : holds b e ≡ false) where
 
 module _ (t : Table) (p : ℕ) (m : Mark) (a b : ℕ) (other : a ≡ b → ⊥) (unmarked : marked_at t p ≡ false) where
   not_new : holds b (entry m a) ≡ false
-  not_new = refuted (holds b (entry m a)) (λ h. other (holds_parts b (entry m a) h).1)
+  not_new = false_from_ne_true (holds b (entry m a)) (λ h. other (holds_parts b (entry m a) h).1)
 
   not_old : holds b (entry_at (without t a) p) ≡ false
   not_old =
-      refuted (holds b (entry_at (without t a) p))
+      false_from_ne_true (holds b (entry_at (without t a) p))
       (λ h. both_ways (marked_at t p) unmarked (holds_parts b (entry_at t p) (remarked_holds Empty a b (entry_at t p) (ap (holds b) (sym (without_at t a p)) ∙ h))).0)
 
   pub mark_entered_other : mark_of (entered t p m a) b ≡ mark_of t b

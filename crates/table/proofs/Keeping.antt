@@ -1,30 +1,33 @@
--- The table in memory: it is proper, and what a write to its array makes of the table.
-use Rattle.std.proofs.Common.{◌≡◌, ℕ, ◌<◌, length, take, set, sym, ap, ◌∙◌, arith}
-use lib.Seq.{take-set-lt}
-use Rattle.std.proofs.lemmas.List.{length-take-le}
+-- The table in memory: it is proper, and what a write of one entry makes of the table.
+use Rattle.std.proofs.Common.{◌≡◌, ℕ, ◌≤◌, List, length, take, replicate, set, sym, ap, ◌∙◌, subst}
+use Rattle.std.proofs.lemmas.List.{length-set, take-replicate}
+use Rattle.arrayvec.specs.ArrayVec.{ArrayVec, with_items}
+use Rattle.arrayvec.proofs.ArrayVecLemmas.{items-with_items}
+use Rattle.device.specs.declared.places.DataPage.{DataPage}
 use Rattle.layout.specs.declared.entries.Entry.{Entry}
 use Rattle.layout.specs.declared.entries.Mark.{Mark}
 use Rattle.table.specs.declared.mapping.MappingTable.{MappingTable}
-use Rattle.table.specs.Tables.{entry, without, entered, ProperTable}
+use Rattle.table.specs.Tables.{Table, empty, empty_table, ProperTable}
 use Rattle.table.specs.Views.{table_of, AloneAt, entry_with, remarked}
 use Rattle.table.proofs.Tablewise.{proper_from}
-use Rattle.table.proofs.Changing.{remarked_one, length_without}
+use Rattle.table.proofs.Changing.{remarked_one}
 
 pub table_proper : (m : MappingTable) → ProperTable (table_of m)
 table_proper m = proper_from (table_of m) m.fit m.distinct
 
-pub table_length : (m : MappingTable) → length (table_of m) ≡ m.pages
-table_length m = length-take-le m.pages m.entries (omega (arith, m.whole, m.within))
+-- one entry written, through the slice of the entries
+pub written : (v : ArrayVec Entry) (now : List Entry) (p : ℕ) (e : Entry) → now ≡ v.items → (with_items v (set now p e)).items ≡ set v.items p e
+written v now p e same = items-with_items v (set now p e) (length-set now p e ∙ ap length same) ∙ ap (λ xs. set xs p e) same
 
-module _ (m : MappingTable) (a p : ℕ) (only : AloneAt (table_of m) a p) where
-  pub remarked_there : (mark : Mark) (e : Entry) → e ≡ entry_with mark a → take m.pages (set m.entries p e) ≡ remarked (table_of m) mark a
-  remarked_there mark e is =
-      take-set-lt m.pages m.entries p e (omega (arith, only.inside, table_length m))
-      ∙ ap (set (table_of m) p) is
-      ∙ sym (remarked_one (table_of m) a p only mark)
+-- a slice of the entries with one of them written is no longer than they were
+pub length_written : (n : ℕ) (v : ArrayVec Entry) (now : List Entry) (p : ℕ) (e : Entry) → now ≡ v.items → length v.items ≤ n → length (with_items v (set now p e)).items ≤ n
+length_written n v now p e same few = subst (λ xs. length xs ≤ n) (sym (written v now p e same)) (subst (λ k. k ≤ n) (sym (length-set v.items p e)) few)
 
--- a page entered once the address is emptied
-pub entered_there : (m n : MappingTable) (p : ℕ) (mark : Mark) (a : ℕ) → table_of n ≡ without (table_of m) a → p < length (table_of m) → take n.pages (set n.entries p (entry mark a)) ≡ entered (table_of m) p mark a
-entered_there m n p mark a was inside =
-    let same : length (table_of n) ≡ length (table_of m) = ap length was ∙ length_without (table_of m) a in
-    take-set-lt n.pages n.entries p (entry mark a) (omega (arith, table_length n)) ∙ ap (λ t. set t p (entry mark a)) was
+-- the entry of the page that was found, written with another mark
+pub remarked_there : (m : MappingTable) (a : ℕ) (p : DataPage) (mark : Mark) (now : List Entry) (e : Entry) → AloneAt (table_of m) a p.0 → now ≡ table_of m → e ≡ entry_with mark a → (with_items m.entries (set now p.0 e)).items ≡ remarked (table_of m) mark a
+remarked_there m a p mark now e only same is =
+    written m.entries now p.0 e same ∙ ap (set (table_of m) p.0) is ∙ sym (remarked_one (table_of m) a p.0 only mark)
+
+-- the first n entries of an array without a mark
+pub unmarked : (n : ℕ) (all t : Table) → t ≡ take n all → all ≡ replicate 448 empty → n ≤ 448 → t ≡ empty_table n
+unmarked n all t cut blank few = cut ∙ ap (take n) blank ∙ take-replicate n 448 empty few

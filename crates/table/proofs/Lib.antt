@@ -4,3 +4,4 @@ pub mod Keeping
 pub mod Marking
 pub mod Choosing
 pub mod Elsewhere
+pub mod Cheapest

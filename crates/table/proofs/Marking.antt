@@ -2,7 +2,7 @@
 use Rattle.std.proofs.Common.{◌≡◌, ℕ, ◌+◌, ◌-◌, ◌<◌, ◌≤◌, true, false, cond, ◌||◌, eqb, ◌≢◌, List, [], ◌∷◌, ◌++◌, length, get_or, take, set, sym, refl, ap, ◌∙◌, ⊎_elim, arith}
 use Rattle.std.proofs.lemmas.List.FromFn.{fill_by_all}
 use Rattle.std.proofs.lemmas.List.{get_or-set_same, get_or-set_other, get_or-take, length-take-le, take_all, take_more}
-use Rattle.std.proofs.lemmas.Bool.{and_right, ne_eqb, both_ways, cases_Bool, cases_eq, cond-true, cond-false, or_left}
+use Rattle.std.proofs.lemmas.Bool.{and_right, ne_eqb, both_ways, false_from_ne_true, cases_Bool, cases_eq, cond-true, cond-false, or_left}
 use Rattle.layout.specs.declared.entries.Entry.{Entry}
 use Rattle.layout.specs.Entries.{mark_number}
 use Rattle.table.specs.Tables.{Table, empty, has_mark, entry_at, holds, held, mark_of, ProperTable}
@@ -30,7 +30,7 @@ mark_push [] e a new = refl
 mark_push (x ∷ xs) e a new =
     ⊎_elim
     (λ y.
-    let old : holds a e ≡ false = ⊎_elim (λ z. absurd (both_ways (held (x ∷ xs) a) (new z) (or_left (holds a x) (held xs a) y))) (λ n. n) (cases_Bool (holds a e)) in
+    let old : holds a e ≡ false = false_from_ne_true (holds a e) (λ z. both_ways (held (x ∷ xs) a) (new z) (or_left (holds a x) (held xs a) y)) in
     cond-true (holds a x) x.mark (mark_of (xs ++ e ∷ []) a) y
     ∙ sym (cond-false (holds a e) e.mark (mark_of (x ∷ xs) a) old ∙ cond-true (holds a x) x.mark (mark_of xs a) y))
     (λ n.
@@ -46,10 +46,8 @@ module _ (t : Table) (proper : ProperTable t) (i : ℕ) (l : i < length t) where
       unheld_from (take i t) a
       (λ k lt.
       let below : k < i = omega (arith, length-take-le i t (omega arith)) in
-      ⊎_elim
-      (λ y. absurd (omega (arith, proper.distinct k i a (ap (holds a) (sym (get_or-take i t k empty below)) ∙ y) h)))
-      (λ n. n)
-      (cases_Bool (holds a (entry_at (take i t) k))))
+      false_from_ne_true (holds a (entry_at (take i t) k))
+      (λ y. omega (arith, proper.distinct k i a (ap (holds a) (sym (get_or-take i t k empty below)) ∙ y) h)))
 
   mark_more : (a : ℕ) → mark_of (take (i + 1) t) a ≡ cond (holds a (entry_at t i)) (entry_at t i).mark (mark_of (take i t) a)
   mark_more a = ap (λ u. mark_of u a) (take_more t i empty l) ∙ mark_push (take i t) (entry_at t i) a (new_there a)

@@ -1,8 +1,8 @@
 -- Laws of the table: what each change makes of an entry, who holds an address then, and that a proper table stays proper.
-use Rattle.std.proofs.Common.{◌≡◌, ℕ, zero, suc, ◌<◌, ◌≤◌, true, false, eqb, List, [], ◌∷◌, length, take, sym, refl, ap, ◌∙◌, subst, ⊎_elim, arith}
+use Rattle.std.proofs.Common.{◌≡◌, ℕ, zero, suc, ◌<◌, true, false, eqb, [], ◌∷◌, length, sym, refl, ap, ◌∙◌, subst, ⊎_elim, arith}
 use Rattle.std.proofs.ByRecursion.{All-get_or, All-from_get_or}
-use Rattle.std.proofs.lemmas.List.{get_or_past, length-take-le}
-use Rattle.std.proofs.lemmas.Bool.{and_parts, and_from, or_cases, or_parts, or_left, or_right, eqb-true, eq-eqb, ltb-true, lt-ltb, both_ways, cases_Bool, cases_lt, cond-true, cond-false}
+use Rattle.std.proofs.lemmas.List.{get_or_past}
+use Rattle.std.proofs.lemmas.Bool.{and_parts, and_from, or_cases, or_parts, or_left, or_right, eqb-true, eq-eqb, ltb-true, lt-ltb, both_ways, false_from_ne_true, cases_Bool, cases_lt, cond-true, cond-false}
 use Rattle.layout.specs.declared.entries.Entry.{Entry}
 use Rattle.layout.specs.declared.entries.Mark.{Mark}
 use Rattle.layout.specs.declared.entries.Mark.TheVariants.{Empty, Clean, Dirty}
@@ -29,8 +29,7 @@ held_at (e ∷ es) a zero h = or_left (holds a e) (held es a) h
 held_at (e ∷ es) a (suc i) h = or_right (holds a e) (held es a) (held_at es a i h)
 
 pub unheld_at : (t : Table) (a i : ℕ) → held t a ≡ false → holds a (entry_at t i) ≡ false
-unheld_at t a i h =
-    ⊎_elim (λ y. absurd (both_ways (held t a) h (held_at t a i y))) (λ n. n) (cases_Bool (holds a (entry_at t i)))
+unheld_at t a i h = false_from_ne_true (holds a (entry_at t i)) (λ y. both_ways (held t a) h (held_at t a i y))
 
 pub held_page : (t : Table) (a : ℕ) → held t a ≡ true → (i : ℕ) × (i < length t) × (holds a (entry_at t i) ≡ true)
 held_page [] a h = absurd (both_ways true (sym h) refl)
@@ -42,7 +41,7 @@ held_page (e ∷ es) a h =
 
 pub unheld_from : (t : Table) (a : ℕ) → ((i : ℕ) → i < length t → holds a (entry_at t i) ≡ false) → held t a ≡ false
 unheld_from t a none =
-    ⊎_elim (λ y. let r = held_page t a y in absurd (both_ways (holds a (entry_at t r.0)) (none r.0 r.1) r.2)) (λ n. n) (cases_Bool (held t a))
+    false_from_ne_true (held t a) (λ y. let r = held_page t a y in both_ways (holds a (entry_at t r.0)) (none r.0 r.1) r.2)
 
 -- a page that holds an address is in the table
 pub holds_inside : (t : Table) (a i : ℕ) → holds a (entry_at t i) ≡ true → i < length t
@@ -116,10 +115,6 @@ distinct_from t p i j h =
     let q = and_parts (has_mark (entry_at t i).mark) (holds (entry_at t i).address.0 (entry_at t j)) h in
     p.distinct i j (entry_at t i).address.0 (holds_from (entry_at t i).address.0 (entry_at t i) q.0 refl) q.1
 
--- a part of an array that is a proper table keeps what its type asks
-pub kept : (n : ℕ) (xs : List Entry) (u : Table) → take n xs ≡ u → ProperTable u → AllFit (take n xs) × AllDistinct (take n xs)
-kept n xs u e p = (subst AllFit (sym e) (fit_from u p), subst AllDistinct (sym e) (distinct_from u p))
-
--- an entry past the part
-pub past_part : (n : ℕ) (xs : List Entry) (i : ℕ) → n ≤ length xs → n ≤ i → entry_at (take n xs) i ≡ empty
-past_part n xs i le l = get_or_past (take n xs) i empty (omega (arith, length-take-le n xs le))
+-- a list that is a proper table keeps what the type asks
+pub kept : (t u : Table) → t ≡ u → ProperTable u → AllFit t × AllDistinct t
+kept t u e p = (subst AllFit (sym e) (fit_from u p), subst AllDistinct (sym e) (distinct_from u p))

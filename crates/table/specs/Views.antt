@@ -1,5 +1,5 @@
 -- What the table in memory means, and what its calls answer, over the table as a list.
-use Rattle.std.specs.Prelude.{◌≡◌, ℕ, ◌+◌, ◌<◌, Bool, true, false, cond, not, ◌&&◌, List, map, length, take, Some, None, Ok, Err, Option, Result, nat_lt}
+use Rattle.std.specs.Prelude.{◌≡◌, ℕ, ◌+◌, ◌<◌, Bool, true, false, cond, not, ◌&&◌, List, map, length, Some, None, Ok, Err, Option, Result, nat_lt}
 use Rattle.std.specs.List.{range_with_len}
 use Rattle.device.specs.declared.places.DataPage.{DataPage}
 use Rattle.device.specs.declared.places.EraseBlock.{EraseBlock}
@@ -13,7 +13,7 @@ use Rattle.table.specs.declared.mapping.MappingTable.{MappingTable}
 use Rattle.table.specs.Tables.{Table, entry, empty, entry_at, has_mark, marked_at, holds, held, mark_of, entered, apply}
 
 abbrev pub table_of : MappingTable → Table
-table_of m = take m.pages m.entries
+table_of m = m.entries.items
 
 -- the page p of the table holds the address, and no other does
 pub record AloneAt (t : Table) (a p : ℕ) : Type 0 where
@@ -50,15 +50,14 @@ may_enter t p mark = has_mark mark && (nat_lt p (length t) && not (marked_at t p
 abbrev pub enters : Table → ℕ → Mark → ℕ → Option Table
 enters t p mark a = cond (may_enter t p mark) (Some (entered t p mark a)) None
 
--- The table is what was wanted, if that is a table and the answer is true; else the answer is false, and the table is as it was.
-abbrev pub Turns : Table → Option Table → Bool → Table → Type 0
-Turns t wanted true u = wanted ≡ Some u
-Turns t wanted false u = (wanted ≡ None) × (u ≡ t)
+-- The table is what was wanted, if that is a table and the answer is Ok; else the answer is a breach, and the table is as it was.
+abbrev pub Turns : Table → Option Table → Result (Unit {0}) Breach → Table → Type 0
+Turns t wanted (Ok x) u = wanted ≡ Some u
+Turns t wanted (Err x) u = (wanted ≡ None) × (u ≡ t)
 
--- the same of a record, where a refusal is a breach
+-- the same of a record
 abbrev pub Applies : Table → Record → Result (Unit {0}) Breach → Table → Type 0
-Applies t r (Ok x) u = apply t r ≡ Some u
-Applies t r (Err x) u = (apply t r ≡ None) × (u ≡ t)
+Applies t r x u = Turns t (apply t r) x u
 
 -- places as numbers
 abbrev pub page_number : Option DataPage → Option ℕ

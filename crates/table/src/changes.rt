@@ -1,10 +1,9 @@
 // What changes the mapping table: a page that enters an address, an address that is dropped or marked clean, and records.
-ghost use Rattle.std.specs.Prelude.{◌≡◌, [], ◌∷◌, Some, None};
-ghost use Rattle.table.specs.Tables.{empty_table, held, without, cleaned, apply, replayed};
+ghost use Rattle.std.specs.Prelude.{◌≡◌, [], ◌∷◌, Some, None, is_ok};
+ghost use Rattle.table.specs.Tables.{empty_table, held, without, cleaned, replayed};
 ghost use Rattle.table.specs.Examples.{drop_five, after_puts, after_drop, AfterTwoPuts};
 ghost use Rattle.table.specs.Views.{table_of, entry_with, remarked, may_enter, enters, Turns, Applies};
 
-use crate::lookups::{EMPTY, is_marked};
 use crate::mapping::MappingTable;
 use device::{DataPage, DiskAddress};
 use layout::{Entry, Mark, Record};
@@ -14,70 +13,55 @@ use layout::{Entry, Mark, Record};
 pub struct Breach;
 
 impl MappingTable {
-    // Empties the page that holds the address, and says whether there was one.
-    pub fn empty_address(&mut self, address: DiskAddress) -> bool
-        ensures was { result ≡ held (table_of self.old) address.0 }
+    // Empties the page that holds the address, or refuses an address that no page holds.
+    pub fn empty_address(&mut self, address: DiskAddress) -> Result<(), Breach>
+        ensures was { is_ok result ≡ held (table_of self.old) address.0 }
         ensures after { table_of self.new ≡ without (table_of self.old) address.0 }
     {
         self.remark(address, Mark::Empty)
     }
 
-    // Marks the page that holds the address clean, and says whether there was one.
-    pub fn mark_clean(&mut self, address: DiskAddress) -> bool
-        ensures was { result ≡ held (table_of self.old) address.0 }
+    // Marks the page that holds the address clean, or refuses an address that no page holds.
+    pub fn mark_clean(&mut self, address: DiskAddress) -> Result<(), Breach>
+        ensures was { is_ok result ≡ held (table_of self.old) address.0 }
         ensures after { table_of self.new ≡ cleaned (table_of self.old) address.0 }
     {
         self.remark(address, Mark::Clean)
     }
 
-    // Gives the page that holds the address this mark, and says whether there was one.
-    fn remark(&mut self, address: DiskAddress, mark: Mark) -> bool
-        ensures was { result ≡ held (table_of self.old) address.0 }
+    // Gives the page that holds the address this mark, or refuses an address that no page holds.
+    fn remark(&mut self, address: DiskAddress, mark: Mark) -> Result<(), Breach>
+        ensures was { is_ok result ≡ held (table_of self.old) address.0 }
         ensures after { table_of self.new ≡ remarked (table_of self.old) mark address.0 }
     {
-        match self.find(address) {
-            Some(page) => {
-                self.entries[page.0 as usize] = entry_with(mark, address);
-                true
-            }
-            None => false,
-        }
+        let page = self.find(address).ok_or(Breach)?;
+        self.entries[page.0 as usize] = entry_with(mark, address);
+        Ok(())
     }
 
     // Whether the page may enter an address with this mark.
     fn may_enter(&self, page: DataPage, mark: Mark) -> bool
         ensures { result ≡ may_enter (table_of self.now) page.0 mark }
     {
-        is_marked(mark) & ((page.0 < self.len()) & !is_marked(self.entry(page).mark))
+        mark != Mark::Empty && page.0 < self.len() && self.entry(page).mark == Mark::Empty
     }
 
-    // Has an unmarked page of the table hold the address, in place of the page that held it. Changes nothing, and says so, where the page or the mark does
-    // not do.
-    pub fn enter(&mut self, page: DataPage, mark: Mark, address: DiskAddress) -> bool
+    // Has an unmarked page of the table hold the address, in place of the page that held it, if one did. Refuses, and changes nothing, where the page or the
+    // mark does not do.
+    pub fn enter(&mut self, page: DataPage, mark: Mark, address: DiskAddress) -> Result<(), Breach>
         ensures { Turns (table_of self.old) (enters (table_of self.old) page.0 mark address.0) result (table_of self.new) }
     {
         if !self.may_enter(page, mark) {
-            return false;
+            return Err(Breach);
         }
-        self.empty_address(address);
+        let _ = self.empty_address(address);
         self.entries[page.0 as usize] = Entry { mark, address };
-        true
+        Ok(())
     }
 
     // Does what the record says, or refuses a record that does not fit the table.
     pub fn apply(&mut self, record: Record) -> Result<(), Breach>
         ensures { Applies (table_of self.old) «record» result (table_of self.new) }
-    {
-        if self.follow(record) {
-            Ok(())
-        } else {
-            Err(Breach)
-        }
-    }
-
-    // Does what the record says, and says whether it fits the table.
-    fn follow(&mut self, record: Record) -> bool
-        ensures { Turns (table_of self.old) (apply (table_of self.old) «record») result (table_of self.new) }
     {
         match record {
             Record::PutClean(page, address) => self.enter(page, Mark::Clean, address),
@@ -93,9 +77,8 @@ fn entry_with(mark: Mark, address: DiskAddress) -> Entry
     ensures { result ≡ entry_with mark address.0 }
 {
     match mark {
-        Mark::Empty => EMPTY,
-        Mark::Clean => Entry { mark, address },
-        Mark::Dirty => Entry { mark, address },
+        Mark::Empty => Entry::EMPTY,
+        Mark::Clean | Mark::Dirty => Entry { mark, address },
     }
 }
 

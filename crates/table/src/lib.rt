@@ -8,5 +8,4 @@ mod mapping;
 
 pub use changes::{Breach, replay_examples};
 pub use choices::first_blank;
-pub use lookups::EMPTY;
 pub use mapping::MappingTable;

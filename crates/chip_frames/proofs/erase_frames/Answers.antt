@@ -1,16 +1,18 @@
-use Rattle.std.proofs.Common.{cond, eqb, ap, ◌∙◌, arith}
-use Rattle.device.specs.Chips.{block_of}
-use Rattle.chip_frames.specs.Frames.{erased_state}
-use Rattle.chip_frames.proofs.Restating.{restated_none, restated_more, restated_all}
+use Rattle.std.proofs.Common.{◌≡◌, ◌-◌, take, drop, ◌∙◌, rules}
+use Rattle.chip_frames.specs.Codes.{state_number, state_of}
+use Rattle.chip_frames.specs.Frames.{state_at, erased_state}
+use Rattle.chip_frames.proofs.Numbers.{erased_number}
+use Rattle.chip_frames.proofs.Parts.{part_erased}
 use Rattle.chip_frames.proofs.erase_frames.Goals as goal
 
-pub loop-p-init : goal.loop-p-init
-loop-p-init c = restated_none _ _
-
-pub loop-p-preserved : goal.loop-p-preserved
-loop-p-preserved c = restated_more _ _ _ c.loop-p.p c.erased_in.result (omega arith)
-    (c.erased_in.ensures ∙ ap (λ s. cond (eqb (block_of c.loop-p.p) c.args.block.0) (erased_state s) s) (c.loop-p.invariant.rest c.loop-p.p (omega arith)))
-    c.loop-p.invariant
-
 pub returns : goal.returns
-returns c = restated_all _ _ _ c.loop-p.p c.loop-p-test.false c.loop-p.invariant
+returns c =
+    let start = c.place_of-place.result.start in
+    let part = take (c.place_of-place.result.end - start) (drop start c.args.image.now) in
+    part_erased c.args.image.now c.args.block.0 _ _ c.place_of-place.ensures.start c.place_of-place.ensures.end c.restate.new.image c.restate.auto.image
+    (λ q h.
+    let k = c.restate.ensures.states q h in
+    let call = k.1 in
+    let e : state_number k.0 ≡ erased_state (state_number (state_of (state_at part q))) = search rules in
+    k.2 ∙ (e ∙ erased_number (state_at part q)))
+    c.restate.ensures.others

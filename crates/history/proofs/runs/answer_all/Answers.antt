@@ -7,7 +7,6 @@ use Rattle.history.proofs.runs.answer_all.Goals as goal
 
 pub loop-call-init : goal.loop-call-init
 loop-call-init g c = (
-  c.requires.sound,
   (on at_first, subst (λ xs. Runs (on at_first) [] xs (on at_first)) (sym c.requires.none.0) refl, c.requires.follows),
   c.requires.none.1,
   c.requires.room,
@@ -18,10 +17,8 @@ pub loop-call-preserved : goal.loop-call-preserved
 loop-call-preserved g c =
     let served = c.serve-answer.ensures in
     let inv = c.loop-call.invariant in (
-      served.sound,
-      reached_more g.C.Chip.meaning g.C.Chip.sound c.args.calls.now c.loop-call.call-index (vec_items c.loop-call.answers) (vec_items c.push_reserved.new.self)
-          c.loop-call.cache c.serve-answer.new.cache _ c.serve-answer.result c.loop-call-test.true (search rules) c.push_reserved.ensures.items inv.0 served.sound
-          served.size served.serves inv.1,
+      reached_more g.C.Chip.meaning c.args.calls.now c.loop-call.call-index (vec_items c.loop-call.answers) (vec_items c.push_reserved.new.self)
+          c.loop-call.cache c.serve-answer.new.cache _ c.serve-answer.result c.loop-call-test.true (search rules) c.push_reserved.ensures.items served.size served.serves inv.0,
       search rules,
       search rules,
       search rules,
@@ -30,10 +27,9 @@ loop-call-preserved g c =
 pub returns : goal.returns
 returns g c =
     record {
-      sound = subst g.C.Chip.sound (sym c.retire.ensures) c.loop-call.invariant.0.chip;
       law = (
-        c.loop-call.invariant.1.0,
-        subst (λ cs. Runs (on at_first) cs (vec_items c.loop-call.answers) c.loop-call.invariant.1.0)
-            (take_all c.loop-call.call-index c.args.calls.now c.loop-call-test.false) c.loop-call.invariant.1.1,
+        c.loop-call.invariant.0.0,
+        subst (λ cs. Runs (on at_first) cs (vec_items c.loop-call.answers) c.loop-call.invariant.0.0)
+            (take_all c.loop-call.call-index c.args.calls.now c.loop-call-test.false) c.loop-call.invariant.0.1,
       );
     }

@@ -7,9 +7,8 @@ answer_all-requires g c =
     let w = formed.0 in
     let meaning = g.C.Chip.meaning in
     record {
-      sound = c.open.ensures.sound;
       follows =
-          follows_at_first meaning (meaning c.new-bare.result.chip) c.form.new.self w c.open.result (c.in-Ok-form.ensures.sound.memory w formed.1) formed.2
+          follows_at_first meaning (meaning c.new-bare.result.chip) c.form.new.self w c.open.result (c.in-Ok-form.ensures.ready w formed.1) formed.2
           (c.open.ensures.opens w formed.1);
       none = (c.in-Ok.ensures.items, c.in-Ok.ensures.len);
       room = c.in-Ok.ensures.capacity;

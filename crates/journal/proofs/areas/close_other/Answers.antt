@@ -17,7 +17,7 @@ returns-in_err-program g c =
     c.trailer_page.result.0 c.write_trailer-note.result c.write_trailer-note.new.page (c.trailer_page.ensures ∙ ap (trailer_at D) c.other-2.ensures)
     c.write_trailer-note.ensures.note (c.write_trailer-note.ensures.bytes ∙ ap (λ a. trailer_data a D) c.other.ensures) n _
     c.write_trailer-note.auto.page h.rules in
-    record { sound = h.sound; done = rw (p.1, p.2) left.done; others = left.others; over = rw p.1 left.over }
+    record { done = rw (p.1, p.2) left.done; others = left.others; over = rw p.1 left.over }
 
 pub returns : goal.returns
 returns g c =
@@ -30,4 +30,4 @@ returns g c =
     c.trailer_page.result.0 c.write_trailer-note.result c.write_trailer-note.new.page (c.trailer_page.ensures ∙ ap (trailer_at D) c.other-2.ensures)
     c.write_trailer-note.ensures.note (c.write_trailer-note.ensures.bytes ∙ ap (λ a. trailer_data a D) c.other.ensures) n
     c.in_ok-program.ensures.rules n' c.sync.result h.rules in
-    record { sound = h.sound; done = left.done; others = left.others; over = left.over }
+    record { done = left.done; others = left.others; over = left.over }

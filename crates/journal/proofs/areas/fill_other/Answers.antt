@@ -9,16 +9,13 @@ use Rattle.journal.proofs.areas.fill_other.Goals as goal
 
 pub loop-j-init : goal.loop-j-init
 loop-j-init g c =
-    (c.requires.sound, refl, filling_none (data_pages c.args.geometry.blocks) c.args.active (table_of c.args.table.now) (g.C.Chip.meaning c.args.chip.now) c.requires.on)
+    (refl, filling_none (data_pages c.args.geometry.blocks) c.args.active (table_of c.args.table.now) (g.C.Chip.meaning c.args.chip.now) c.requires.on)
 
 pub slice_bounds-write_entries-end : goal.slice_bounds-write_entries-end
-slice_bounds-write_entries-end g c = sym c.loop-j.invariant.1
+slice_bounds-write_entries-end g c = sym c.loop-j.invariant.0
 
 pub write_entries-note-requires : goal.write_entries-note-requires
-write_entries-note-requires g c = record { inside = omega (arith, ap length c.as_slice.ensures, c.requires.long); whole = c.loop-j.invariant.1 }
-
-pub program-requires : goal.program-requires
-program-requires g c = c.loop-j.invariant.0
+write_entries-note-requires g c = record { inside = omega (arith, ap length c.as_slice.ensures, c.requires.long); whole = c.loop-j.invariant.0 }
 
 pub returns-in_err-program : goal.returns-in_err-program
 returns-in_err-program g c =
@@ -29,11 +26,11 @@ returns-in_err-program g c =
     let p = err_from_is_err_and c.from_residual.result c.from_residual.ensures.1 in
     let D = data_pages c.args.geometry.blocks in
     let t = table_of c.args.table.now in
-    let left = filling_fails D (omega arith) c.args.active t m c.requires.settled c.requires.free c.loop-j.j n c.loop-j.invariant.2 (omega arith) (omega arith)
+    let left = filling_fails D (omega arith) c.args.active t m c.requires.settled c.requires.free c.loop-j.j n c.loop-j.invariant.1 (omega arith) (omega arith)
     c.entry_page.result.0 c.write_entries-note.result c.write_entries-note.new.page (c.entry_page.ensures ∙ ap (λ a. entry_page_at a c.loop-j.j) c.other.ensures)
     c.write_entries-note.ensures.note (c.write_entries-note.ensures.bytes ∙ ap (λ z. entry_data z c.loop-j.j) c.as_slice.ensures)
-    (c.write_entries-note.auto.page ∙ c.loop-j.invariant.1) n' _ h.rules in
-    record { sound = h.sound; done = rw (p.1, p.2) left.done; others = left.others; held = left.held }
+    (c.write_entries-note.auto.page ∙ c.loop-j.invariant.0) n' _ h.rules in
+    record { done = rw (p.1, p.2) left.done; others = left.others; held = left.held }
 
 pub loop-j-preserved : goal.loop-j-preserved
 loop-j-preserved g c =
@@ -43,17 +40,13 @@ loop-j-preserved g c =
     let h = c.in_ok-program.ensures in
     let D = data_pages c.args.geometry.blocks in
     let t = table_of c.args.table.now in
-    let whole = c.write_entries-note.auto.page ∙ c.loop-j.invariant.1 in (
-      h.sound,
+    let whole = c.write_entries-note.auto.page ∙ c.loop-j.invariant.0 in (
       whole,
-      filling_more D (omega arith) c.args.active t m c.requires.settled c.requires.free c.loop-j.j n c.loop-j.invariant.2 (omega arith) (omega arith)
+      filling_more D (omega arith) c.args.active t m c.requires.settled c.requires.free c.loop-j.j n c.loop-j.invariant.1 (omega arith) (omega arith)
           c.entry_page.result.0 c.write_entries-note.result c.write_entries-note.new.page (c.entry_page.ensures ∙ ap (λ a. entry_page_at a c.loop-j.j) c.other.ensures)
           c.write_entries-note.ensures.note (c.write_entries-note.ensures.bytes ∙ ap (λ z. entry_data z c.loop-j.j) c.as_slice.ensures)
           whole n' h.rules,
     )
-
-pub settle_entries-requires : goal.settle_entries-requires
-settle_entries-requires g c = record { sound = c.loop-j.invariant.0 }
 
 pub returns : goal.returns
 returns g c =
@@ -64,6 +57,6 @@ returns g c =
     let D = data_pages c.args.geometry.blocks in
     let t = table_of c.args.table.now in
     let all : c.loop-j.j ≡ entry_pages (data_pages c.args.geometry.blocks) = omega arith in
-    let done = subst (λ j. Filling D c.args.active t m j n) all c.loop-j.invariant.2 in
+    let done = subst (λ j. Filling D c.args.active t m j n) all c.loop-j.invariant.1 in
     let left = filling_ends D (omega arith) c.args.active t m c.requires.settled c.requires.free n done n' c.settle_entries.result h.rules in
-    record { sound = h.sound; done = left.done; others = left.others; held = left.held }
+    record { done = left.done; others = left.others; held = left.held }

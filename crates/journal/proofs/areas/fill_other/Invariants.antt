@@ -7,5 +7,5 @@ use Rattle.journal.proofs.areas.fill_other.Given as goal
 
 abbrev pub invariant-loop-j : goal.invariant-loop-j
 invariant-loop-j g l =
-    g.C.Chip.sound l.chip × (length l.page ≡ 512)
+    (length l.page ≡ 512)
     × Filling (data_pages l.geometry.blocks) l.active (table_of l.table) (g.C.Chip.meaning l.initial.chip) l.j (g.C.Chip.meaning l.chip)

@@ -12,7 +12,6 @@ pub fill_other-requires : goal.fill_other-requires
 fill_other-requires g c =
     let wiped = c.in_ok-wipe.ensures in
     record {
-      sound = wiped.sound;
       on = wiped.done.power;
       fits = wiped.done.size ∙ c.requires.fits;
       long = ap length c.empty-table.ensures ∙ length-replicate (data_pages c.args.geometry.blocks) empty;
@@ -32,6 +31,5 @@ returns g c =
     let three = c.in_ok-close_other.ensures in
     let filled = subst (λ t. Lands m₁ (with_entries D Two t (shown m₁)) m₂) c.empty-table.ensures two.done in
     record {
-      sound = three.sound;
       formed = (c.recovered.ensures.size, all_formed D m m₁ m₂ m₃ (omega (arith, c.requires.fits)) (omega (arith, c.requires.fits)) (ap data_pages (sym c.requires.fits)) one.done filled three.done _ (c.recovered.ensures.noted ∙ noted_formed D _ c.empty-table.ensures));
     }

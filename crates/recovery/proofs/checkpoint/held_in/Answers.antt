@@ -1,15 +1,13 @@
-use Rattle.recovery.proofs.Distinctness.{held_found, held_passed, held_end}
+use Rattle.std.proofs.Common.{◌||◌, sym, refl, ◌∙◌, rules, tests}
+use Rattle.std.proofs.lemmas.Iterator.{YieldsList-from_slice}
+use Rattle.std.proofs.lemmas.Iterator.Search.{any_from_yields_List}
+use Rattle.std.proofs.lemmas.List.Recursion.{same_from_clauses}
+use Rattle.std.specs.List.{list_any}
+use Rattle.table.specs.Tables.{holds, held}
 use Rattle.recovery.proofs.checkpoint.held_in.Goals as goal
 
-pub returns-then-is_marked-e : goal.returns-then-is_marked-e
-returns-then-is_marked-e c =
-    held_found c.args.entries.now c.loop-e.e-index c.args.address.0 c.is_marked.result c.loop-e-test.true c.is_marked.ensures c.loop-e.invariant
-    c.if-is_marked-e.true
-
-pub loop-e-preserved : goal.loop-e-preserved
-loop-e-preserved c =
-    held_passed c.args.entries.now c.loop-e.e-index c.args.address.0 c.is_marked.result c.loop-e-test.true c.is_marked.ensures c.loop-e.invariant
-    c.if-is_marked-e.false
-
 pub returns : goal.returns
-returns c = held_end c.args.entries.now c.loop-e.e-index c.args.address.0 c.loop-e-test.false c.loop-e.invariant
+returns c =
+    let a = c.args.address.0 in
+    any_from_yields_List (holds a) _ _ c.any.result c.any.ensures.ran (YieldsList-from_slice c.args.entries.now cc) (λ x b q k. search (rules, tests))
+    ∙ sym (same_from_clauses (λ xs. held xs a) (list_any (holds a)) (λ x r. holds a x || r) refl (λ _ _. refl) (λ _ _. refl) c.args.entries.now)

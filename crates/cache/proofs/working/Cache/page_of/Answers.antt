@@ -10,4 +10,4 @@ returns-in-Some g c =
     let a = c.args.address.0 in
     let p = c.in-Some.page.0 in
     let at = subst (λ t. AloneAt t a p) c.table.ensures c.in-Some.ensures in
-    (found_held (noted c.args.self.now.journal).table a p at, at)
+    rw (← c.self.view_is) (found_held (noted c.self.inside.memory.journal).table a p at, at)

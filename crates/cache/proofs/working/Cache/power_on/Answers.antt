@@ -1,10 +1,14 @@
 -- A power-on that is refused keeps the cache off with its fault.
-use Rattle.cache.proofs.Starting.{power_refused}
+use Rattle.std.proofs.Common.{refl, subst}
+use Rattle.layout.specs.Geometry.{data_pages}
+use Rattle.engine.specs.Works.{StaysDark}
 use Rattle.cache.proofs.working.Cache.power_on.Goals as goal
 
-pub returns-in-Err : goal.returns-in-Err
-returns-in-Err g c =
-    let woke = c.in-Err.ensures in
-    let h = power_refused g.C.Chip.meaning g.C.Chip.sound c.args.self.now c.requires c.wake.new.chip woke.sound
-    c.geometry-geometry.result c.geometry-geometry.ensures c.in-Err.fault woke.wakes in
-    record { sound = h.sound; size = h.size; call = h.call }
+pub returns-in-Err-clause-call : goal.returns-in-Err-clause-call
+returns-in-Err-clause-call g c =
+    rw (← c.self.view_is) (
+      refl,
+      subst (λ k. StaysDark (data_pages k.blocks) (g.C.Chip.meaning c.self.inside.chip) c.in-Err.fault (g.C.Chip.meaning c.wake.new.chip)) c.geometry-geometry.ensures c.in-Err.ensures.wakes,
+      refl,
+      refl,
+    )

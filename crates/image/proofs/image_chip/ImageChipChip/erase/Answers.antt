@@ -3,7 +3,4 @@ use Rattle.image.proofs.Chipside.{erases_rules}
 use Rattle.image.proofs.image_chip.ImageChipChip.erase.Goals as goal
 
 pub returns : goal.returns
-returns c = record {
-  sound = c.erase_frames.ensures.whole;
-  rules = erases_rules (chip_view c.args.self.now) (chip_view c.erase_frames.new.self) c.requires c.args.block.0 c.erase_frames.result c.erase_frames.ensures.exact;
-}
+returns c = record { rules = erases_rules (chip_view c.args.self.now) (chip_view c.erase_frames.new.self) c.args.self.now.whole c.args.block.0 c.erase_frames.result c.erase_frames.ensures }

@@ -3,7 +3,4 @@ use Rattle.image.proofs.Chipside.{powers_rules}
 use Rattle.image.proofs.image_chip.ImageChipChip.power_on.Goals as goal
 
 pub returns : goal.returns
-returns c = record {
-  sound = c.cut_and_power.ensures.whole;
-  rules = powers_rules (chip_view c.args.self.now) (chip_view c.cut_and_power.new.self) c.requires c.cut_and_power.ensures.exact;
-}
+returns c = record { rules = powers_rules (chip_view c.args.self.now) (chip_view c.cut_and_power.new.self) c.args.self.now.whole c.cut_and_power.ensures }

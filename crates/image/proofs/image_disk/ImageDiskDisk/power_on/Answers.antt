@@ -4,7 +4,4 @@ use Rattle.image.proofs.Diskside.{block_powers_rules}
 use Rattle.image.proofs.image_disk.ImageDiskDisk.power_on.Goals as goal
 
 pub returns : goal.returns
-returns c = record {
-  sound = c.cut_and_power.ensures.whole;
-  rules = block_powers_rules (disk_view c.args.self.now) (disk_view c.cut_and_power.new.self) c.cut_and_power.ensures.exact;
-}
+returns c = record { rules = block_powers_rules (disk_view c.args.self.now) (disk_view c.cut_and_power.new.self) c.cut_and_power.ensures }

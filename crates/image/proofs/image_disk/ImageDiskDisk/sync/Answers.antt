@@ -4,7 +4,4 @@ use Rattle.image.proofs.Diskside.{block_syncs_rules}
 use Rattle.image.proofs.image_disk.ImageDiskDisk.sync.Goals as goal
 
 pub returns : goal.returns
-returns c = record {
-  sound = c.settle_frames.ensures.whole;
-  rules = block_syncs_rules (disk_view c.args.self.now) (disk_view c.settle_frames.new.self) c.settle_frames.result c.settle_frames.ensures.exact;
-}
+returns c = record { rules = block_syncs_rules (disk_view c.args.self.now) (disk_view c.settle_frames.new.self) c.settle_frames.result c.settle_frames.ensures }

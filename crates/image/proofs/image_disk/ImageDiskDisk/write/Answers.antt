@@ -4,7 +4,4 @@ use Rattle.image.proofs.Diskside.{block_writes_rules}
 use Rattle.image.proofs.image_disk.ImageDiskDisk.write.Goals as goal
 
 pub returns : goal.returns
-returns c = record {
-  sound = c.write_frame.ensures.whole;
-  rules = block_writes_rules (disk_view c.args.self.now) (disk_view c.write_frame.new.self) c.args.block.0 c.args.bytes.now c.write_frame.result c.write_frame.ensures.exact;
-}
+returns c = record { rules = block_writes_rules (disk_view c.args.self.now) (disk_view c.write_frame.new.self) c.args.block.0 c.args.bytes.now c.write_frame.result c.write_frame.ensures }

@@ -1,14 +1,13 @@
-use Rattle.std.proofs.Common.{◌≡◌, ◌<◌, length, sym, refl, ap, ◌∙◌, subst, arith}
-use Rattle.std.proofs.lemmas.Bool.{eq-eqb, ne_eqb}
+use Rattle.std.proofs.Common.{◌≡◌, ◌<◌, eqb, length, sym, refl, ap, ◌∙◌, subst, arith}
 use Rattle.device.specs.Chips.{block_of, data_page_at}
 use Rattle.table.specs.Tables.{ProperTable}
 use Rattle.table.proofs.Keeping.{table_proper}
 use Rattle.journal.specs.Notes.{noted}
-use Rattle.journal.specs.Drops.{dropping_page}
+use Rattle.journal.specs.Drops.{in_block, dropping_page}
 use Rattle.journal.proofs.Dropped.{dropped_none, dropped_all, dropped_beside, dropped_more}
 use Rattle.journal.proofs.Spared.{upto_few}
 use Rattle.journal.proofs.memory.Journal.drop_block.Goals as goal
-use Rattle.journal.proofs.memory.Journal.drop_block.Goals.{then-erase_block-block, else-erase_block-block}
+use Rattle.journal.proofs.memory.Journal.drop_block.Goals.{then-eq, else-eq}
 
 pub loop-i-init : goal.loop-i-init
 loop-i-init c = (refl, dropped_none c.args.block.0 (noted c.args.self.now))
@@ -26,15 +25,16 @@ loop-i-preserved c =
     let inv = c.loop-i.invariant in
     let inside : i < length v.table = omega (arith, c.loop-i-test.true, c.len-i-end.ensures) in
     let at : c.erase_block.result.0 ≡ block_of (data_page_at i) = c.erase_block.ensures ∙ ap block_of c.chip_page.ensures in
-    elim c.if-erase_block-block.branch [
-      | then-erase_block-block w ↦ (
+    let same : in_block b i ≡ c.eq.result = ap (λ k. eqb k b) (sym at) ∙ sym c.eq.ensures in
+    elim c.if-eq.branch [
+      | then-eq w ↦ (
         ap (λ j. j.geometry) w.self-is ∙ w.drop_page.ensures.size ∙ inv.0,
         ap noted w.self-is ∙ w.drop_page.ensures.after ∙ ap (dropping_page i) inv.1
-            ∙ dropped_more b i v inside (eq-eqb (block_of (data_page_at i)) b (sym at ∙ w.if-erase_block-block.true)) (subst ProperTable (ap (λ x. x.table) inv.1) (table_proper c.loop-i.self.table)),
+            ∙ dropped_more b i v inside (same ∙ w.if-eq.true) (subst ProperTable (ap (λ x. x.table) inv.1) (table_proper c.loop-i.self.table)),
       )
-      | else-erase_block-block w ↦ (
+      | else-eq w ↦ (
         ap (λ j. j.geometry) w.self-is ∙ inv.0,
-        ap noted w.self-is ∙ inv.1 ∙ dropped_beside b i v inside (ne_eqb (block_of (data_page_at i)) b (λ e. w.if-erase_block-block.false (at ∙ e))),
+        ap noted w.self-is ∙ inv.1 ∙ dropped_beside b i v inside (same ∙ w.if-eq.false),
       )
     ]
 

@@ -1,9 +1,9 @@
-use Rattle.std.proofs.Common.{◌≡◌, false, get_or}
-use Rattle.space.specs.Worlds.{flags}
-use Rattle.space.proofs.Flagging.{Freed}
+use Rattle.std.proofs.Common.{◌≡◌, ℕ, ◌<◌, ◌≤◌, false, ◌||◌, length, get_or}
+use Rattle.journal.specs.Drops.{in_block}
 use Rattle.space.proofs.blanks.Space.free.Given as goal
 
 abbrev pub invariant-loop-i : goal.invariant-loop-i
 invariant-loop-i l =
-    (l.self.pages ≡ l.initial.self.pages) × (l.self.cursor ≡ l.initial.self.cursor)
-    × Freed l.block.0 l.initial.self.pages l.i (λ k. get_or (flags l.initial.self) k false) (λ k. get_or (flags l.self) k false)
+    (length l.blank-items ≡ length l.initial.blank-items)
+    × ((k : ℕ) → k < l.i → get_or l.blank-items k false ≡ in_block l.block.0 k || get_or l.initial.blank-items k false)
+    × ((k : ℕ) → l.i ≤ k → get_or l.blank-items k false ≡ get_or l.initial.blank-items k false)

@@ -11,7 +11,6 @@ returns-in_err-program g c =
     let p = err_from_is_err_and c.from_residual.result c.from_residual.ensures.1 in
     let (t, kept) = c.requires.keeps in
     record {
-      sound = h.sound;
       places = rw (p.1, p.2) (places_lost (pages_of c.args.journal.now) c.args.page.0 c.args.address.0 c.chip_page.result.0 c.note_of_data.result
           c.args.bytes.now m m' (noted c.args.journal.now) c.args.self.now c.chip_page.ensures c.note_of_data.ensures c.requires.inside c.requires.free
           _ t kept c.requires.whole h.rules c.args.self.now);
@@ -24,8 +23,7 @@ returns g c =
     let h = c.in_ok-program.ensures in
     let (t, kept) = c.requires.keeps in
     record {
-      sound = h.sound;
       places = places_made (pages_of c.args.journal.now) c.args.page.0 c.args.address.0 c.chip_page.result.0 c.note_of_data.result
           c.args.bytes.now m m' (noted c.args.journal.now) c.args.self.now c.chip_page.ensures c.note_of_data.ensures c.requires.inside c.requires.free
-          t kept h.rules c.take.new.self c.take.ensures.long c.take.ensures.each c.take.ensures.past;
+          t kept h.rules c.take.new.self c.take.ensures.used c.take.ensures.past;
     }

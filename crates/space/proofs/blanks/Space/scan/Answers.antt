@@ -1,6 +1,7 @@
-use Rattle.std.proofs.Common.{false, get_or, ◌∙◌, arith}
-use Rattle.recovery.proofs.Lookwise.{quiet_then}
-use Rattle.space.specs.Worlds.{flags}
+use Rattle.std.proofs.Common.{◌≡◌, ap, ◌∙◌, arith}
+use Rattle.recovery.specs.Looking.{shown}
+use Rattle.recovery.proofs.Lookwise.{quiet_then, quiet_shown}
+use Rattle.space.specs.Worlds.{is_blank, blank_page}
 use Rattle.space.proofs.Flagging.{told_more}
 use Rattle.space.proofs.blanks.Space.scan.Goals as goal
 
@@ -8,14 +9,13 @@ pub loop-i-preserved : goal.loop-i-preserved
 loop-i-preserved g c =
     let m = g.C.Chip.meaning c.args.chip.now in
     let m₁ = g.C.Chip.meaning c.loop-i.chip in
-    let m₂ = g.C.Chip.meaning c.look_at.new.chip in
-    let h = c.in_ok-look_at.ensures in
-    let inv = c.loop-i.invariant in (
-      h.sound,
-      h.found.0,
-      quiet_then m m₁ m₂ inv.2 h.quiet,
-      omega (arith, inv.3),
-      h.long ∙ inv.4,
-      h.stays ∙ inv.5,
-      told_more m m₁ c.loop-i.i (λ k. get_or (flags c.loop-i.space) k false) (λ k. get_or (flags c.look_at.new.self) k false) inv.2 inv.6 h.found.1,
+    let h = c.in_ok-seen.ensures in
+    let inv = c.loop-i.invariant in
+    let told : c.is_blank.result ≡ blank_page (shown m) c.loop-i.i =
+    c.is_blank.ensures (shown m₁ c.chip_page.result.0) c.look.new.buf h.saw.1
+    ∙ ap (λ p. is_blank (shown m₁ p)) c.chip_page.ensures ∙ ap is_blank (quiet_shown m m₁ inv.1 _) in (
+      h.saw.0,
+      quiet_then m m₁ (g.C.Chip.meaning c.look.new.chip) inv.1 h.quiet,
+      omega (arith, c.push.ensures.len, inv.2),
+      told_more m c.loop-i.i c.loop-i.blank.items c.is_blank.result c.push.new.self.items c.push.ensures.items inv.2 inv.3 told,
     )

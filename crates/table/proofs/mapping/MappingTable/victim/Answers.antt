@@ -1,9 +1,18 @@
-use Rattle.table.specs.declared.choices.Purpose.TheVariants.{Reclaim}
+use Rattle.std.proofs.Common.{◌+◌, ◌-◌, eqb, refl, rules, tests, arith}
+use Rattle.std.proofs.lemmas.Iterator.{YieldsList-from_range}
+use Rattle.std.proofs.lemmas.Iterator.Consumers.{YieldsList-from_filter, YieldsList-at}
+use Rattle.table.specs.Usages.{usage_at}
 use Rattle.table.specs.Views.{table_of, block_number}
-use Rattle.table.proofs.Choosing.{chosen_by_table}
+use Rattle.table.proofs.Cheapest.{chosen}
+use Rattle.table.proofs.Choosing.{numbered, chosen_by_table}
 use Rattle.table.proofs.mapping.MappingTable.victim.Goals as goal
 
 pub returns : goal.returns
 returns c =
-    chosen_by_table Reclaim c.usage_of-usage.result c.as_slice.result.now (table_of c.args.self.now) c.blocks-2.result c.args.geometry.blocks
-    (block_number c.cheapest.result) c.as_slice.ensures c.blocks-2.ensures c.args.geometry.few c.usage_of-usage.ensures.each c.cheapest.ensures
+    let us = c.usage-usage.result in
+    let n = c.blocks-2.result in
+    let r = c.min_by_key.result in
+    chosen_by_table (λ u. eqb u.dirty 0) (λ u. u.marked) us (table_of c.args.self.now) (8 + (n - 8)) c.args.geometry.blocks r (block_number c.map.result)
+    (omega arith) (omega arith) (numbered r c.map.result _ c.map.ensures.cases (λ b x h. search rules)) c.usage-usage.ensures.each
+    (chosen (λ b. eqb (usage_at us b).dirty 0) (λ b. (usage_at us b).marked) _ _ (λ x k q h. search (rules, tests)) (n - 8) 8 r c.min_by_key.ensures.ran
+    (YieldsList-from_filter _ _ (YieldsList-at c.filter.ensures.source (YieldsList-from_range 8 n (n - 8) refl refl)) c.filter.ensures.closure (λ x b q k. search (rules, tests))))

@@ -1,0 +1,16 @@
+use Rattle.std.proofs.Common.{◌<◌, ◌≤◌, get_or, rules, tests}
+use Rattle.std.proofs.lemmas.Iterator.{IsFirst-from_position, YieldsList-from_slice}
+use Rattle.chip_frames.proofs.Parts.{bad_by_frames}
+use Rattle.chip_frames.proofs.first_bad.Goals as goal
+
+pub returns-in_err-p : goal.returns-in_err-p
+returns-in_err-p c =
+    let found = IsFirst-from_position _ _ c.position.result (λ x. 5 < get_or x 0 0) (λ x. get_or x 0 0 ≤ 5) c.position.ensures.ran (YieldsList-from_slice c.frames_of.result.now cc) (λ x q k. search (rules, tests)) (λ x q k. search (rules, tests)) in
+    let listed = bad_by_frames c.args.image.now c.frames_of.result.now c.frames_of.ensures.frames c.position.result c.frames_of.ensures.count found in
+    search rules
+
+pub returns : goal.returns
+returns c =
+    let found = IsFirst-from_position _ _ c.position.result (λ x. 5 < get_or x 0 0) (λ x. get_or x 0 0 ≤ 5) c.position.ensures.ran (YieldsList-from_slice c.frames_of.result.now cc) (λ x q k. search (rules, tests)) (λ x q k. search (rules, tests)) in
+    let bad = bad_by_frames c.args.image.now c.frames_of.result.now c.frames_of.ensures.frames c.position.result c.frames_of.ensures.count found in
+    search rules

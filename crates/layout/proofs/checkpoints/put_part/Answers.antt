@@ -1,9 +1,0 @@
-use Rattle.std.proofs.Common.{◌*◌, ap, ◌∙◌}
-use Rattle.layout.specs.Entries.{entry_bytes}
-use Rattle.layout.specs.Pages.{cells_page}
-use Rattle.layout.proofs.Partwise.{part_is}
-use Rattle.layout.proofs.checkpoints.put_part.Goals as goal
-
-pub returns : goal.returns
-returns c =
-    c.put_cells.ensures ∙ ap (cells_page entry_bytes) (part_is c.args.table.now (64 * c.args.j) c.part_end-end.result c.requires.inside c.part_end-end.ensures.within c.part_end-end.ensures.size)
