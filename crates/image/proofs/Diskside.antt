@@ -14,6 +14,10 @@ use Rattle.disk_frames.proofs.Blockwise.{written_blocks, blocks_settled, cut_blo
 use Rattle.image.specs.Exact.{View, Counted, Switched}
 use Rattle.image.specs.OfDisk.{disk_means, disk_layer, disk_offline, disk_refuses}
 use Rattle.image.proofs.Exactly.{as_many, on_if, counted_call, switched_call}
+use Rattle.device.specs.Cells.{reads}
+use Rattle.device.specs.Disks.{BlockReads, block_read_refusal}
+use Rattle.image.specs.Exact.{Looked}
+use Rattle.image.proofs.Exactly.{looked_call}
 
 module _ (v w : View) where
   pub block_writes_rules : (b : ℕ) (bytes : List ℕ) (r : Result (Unit {0}) Fault)
@@ -48,3 +52,11 @@ module _ (v w : View) where
     switched_call blocks_in block_in (as_many 1026) v w (ChangesAll cut_frame v.bytes) (λ q. Cut Never (block_in v.bytes q))
         (λ f len q. cut_blocks v.bytes w.bytes len f q) h,
   )
+
+-- a read
+pub block_reads_rules : (v : View) (b : ℕ) (buf after : List ℕ) (r : Result (Unit {0}) Fault)
+    → Looked (block_read_refusal disk_layer disk_offline (disk_means v) b (length buf)) (λ _. after ≡ reads (block_in v.bytes b)) (after ≡ buf) r
+    → BlockReads disk_layer disk_offline disk_offline (disk_means v) b buf r after (disk_means v)
+block_reads_rules v b buf after r h =
+    looked_call blocks_in block_in _ (disk_refuses b PowerOff) v (Halted (disk_means v) (block_in v.bytes)) (λ _. after ≡ reads (block_in v.bytes b)) (after ≡ buf) r
+    (λ e. (in_order_met v.power.on (disk_refuses b PowerOff) (eqb (length buf) 512) (ltb b (blocks_in v.bytes)) (disk_refuses b) None e).0) h

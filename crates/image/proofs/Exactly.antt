@@ -4,6 +4,10 @@ use Rattle.device.specs.declared.faults.Fault.{Fault}
 use Rattle.device.specs.Cells.{Cell, Meaning, Becomes}
 use Rattle.device.specs.Calls.{Call}
 use Rattle.image.specs.Exact.{View, Counted, Switched}
+use Rattle.std.proofs.Common.{◌-◌, ◌≤◌, [], ◌∷◌, get_or, take, drop}
+use Rattle.std.proofs.lemmas.List.{take_rest}
+use Rattle.device.specs.Calls.{Served}
+use Rattle.image.specs.Exact.{Looked, next_fuse, later_fuses}
 
 -- images of one length have as many blocks
 pub as_many : (k : ℕ) (xs ys : List ℕ) → length ys ≡ length xs → length ys / k ≡ length xs / k
@@ -35,3 +39,21 @@ module _ {S : Type 0} (size : List ℕ → ℕ) (cell : List ℕ → ℕ → Cel
       → Switched v changed w → Becomes true (means v) each (means w)
   switched_call v w changed each h (c, len, is) =
       record { power = ap (λ z. z.power.on) is; size = sized v.bytes w.bytes len; cells = h c len }
+
+-- the fuse that comes next, and those after it
+pub next_is : (xs : List ℕ) → 1 ≤ length xs → Some (get_or xs 0 0) ≡ next_fuse xs
+next_is [] h = absurd (omega arith)
+next_is (n ∷ more) h = refl
+
+pub later_is : (xs : List ℕ) → 1 ≤ length xs → take (length xs - 1) (drop 1 xs) ≡ later_fuses xs
+later_is [] h = absurd (omega arith)
+later_is (n ∷ more) h = take_rest (n ∷ more) 1
+
+-- a call that changes nothing
+module _ {S : Type 0} (size : List ℕ → ℕ) (cell : List ℕ → ℕ → Cell S) where
+  pub looked_call : {T : Type 0} (refusal : Option Fault) (lost : Fault) (v : View) (halted : ℕ → Cell S → Type 0) (ok : T → Type 0) (same : Type 0) (r : Result T Fault)
+      → (refusal ≡ None → v.power.on ≡ true) → Looked refusal ok same r
+      → Call refusal lost (record { on = v.power.on; size = size v.bytes; cell = cell v.bytes }) (Served (cell v.bytes)) halted ok same r
+      (record { on = v.power.on; size = size v.bytes; cell = cell v.bytes })
+  looked_call refusal lost v halted ok same (Ok x) on (e, o) = (e, o, record { power = on e; size = refl; cells = λ q. inl refl })
+  looked_call refusal lost v halted ok same (Err f) on (e, s) = (s, inl (e, refl))

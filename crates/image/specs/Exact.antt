@@ -1,5 +1,6 @@
 -- What an image device does exactly: beyond the rules of its kind, nothing settles early, and power fails just where its fuse is spent.
 use Rattle.std.specs.Prelude.{◌≡◌, ℕ, zero, suc, pred, ◌*◌, ◌/◌, ◌<◌, ◌≤◌, Bool, true, false, ◌⊎◌, List, [], ◌∷◌, length, Some, None, Ok, Err, Option, Result}
+use Rattle.std.specs.Borrow.{MutBor}
 use Rattle.device.specs.declared.faults.Fault.{Fault}
 use Rattle.device.specs.declared.faults.Layer.{Layer}
 use Rattle.device.specs.declared.faults.Refusal.{Refusal}
@@ -13,6 +14,16 @@ pub record Supply : Type 0 where
 
 abbrev pub supply : Power → Supply
 supply p = record { on = p.on; left = p.left; rest = p.rest.now }
+
+-- what a contract sees of a refusal to make one: why, and the image that comes back
+pub record Declined : Type 0 where
+  pub fault : Fault
+  pub image : MutBor (List ℕ)
+
+-- what a contract sees of an image device: the image that it was lent, and its power
+pub record Device : Type 0 where
+  pub image : MutBor (List ℕ)
+  pub power : Power
 
 -- an image device: its power and its image
 pub record View : Type 0 where

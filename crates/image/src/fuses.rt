@@ -13,9 +13,9 @@ pub const SIZE: usize = 512;
 // Whether power is on, what the present fuse has left, and the fuses of the power-ons to come. Without a fuse power does not fail.
 #[derive(Drop)]
 pub struct Power<'a> {
-    on: bool,
-    left: Option<u32>,
-    rest: &'a [u32],
+    pub(crate) on: bool,
+    pub(crate) left: Option<u32>,
+    pub(crate) rest: &'a [u32],
 }
 
 impl<'a> Power<'a> {

@@ -7,12 +7,13 @@ ghost use Rattle.device.specs.Chips.{read_refusal, program_refusal, erase_refusa
 ghost use Rattle.device.specs.Chips.State.{held};
 ghost use Rattle.chip_frames.specs.Frames.{state_at, Whole, blocks_in, page_in, Framed, Restated, settling, erasing, cutting};
 ghost use Rattle.chip_frames.specs.Codes.{state_of};
-ghost use Rattle.image.specs.Exact.{Counted, Looked, Switched, Allows};
+ghost use Rattle.image.specs.Exact.{Device, Counted, Looked, Switched, Allows};
 
 use crate::fuses::Power;
 use crate::unfit::{Unfit, serves};
 use chip_frames::State;
 use device::{Chip, ChipPage, EraseBlock, Fault, Layer, Note, Refusal};
+use std::marker::Model;
 
 // The pages of an erase block, the bytes of their frames, and the most erase blocks.
 const PAGES: u32 = 8;
@@ -26,7 +27,14 @@ const BLOCKS: usize = 64;
 pub struct ImageChip<'a> {
     image: &'a mut [u8],
     power: Power<'a>,
-    ghost whole: { Whole image.now },
+}
+
+impl<'a> Model for ImageChip<'a> {
+    ghost Value = { Device };
+
+    ghost view = { λ c. record { image = c.image; power = c.power } };
+
+    ghost invariant = { λ c. Whole c.image.now };
 }
 
 impl<'a> ImageChip<'a> {
@@ -65,7 +73,8 @@ impl<'a> ImageChip<'a> {
     }
 
     fn block_count(&self) -> u32
-        ensures { result ≡ blocks_in self.now.image.now }
+        ensures count { result ≡ blocks_in self.now.image.now }
+        ensures whole { Whole self.now.image.now }
     {
         chip_frames::blocks_in(self.image) as u32
     }
@@ -104,7 +113,8 @@ impl<'a> ImageChip<'a> {
 
     // Reads a page. It does not count, and nothing changes.
     pub fn read_frame(&self, page: ChipPage, buf: &mut [u8]) -> Result<Note, Fault>
-        ensures { Looked (read_refusal (chip_means (chip_view self.now)) page.0 (length buf.old)) (λ note. reads (page_in self.now.image.now page.0) ≡ held note buf.new) (buf.new ≡ buf.old) result }
+        ensures whole { Whole self.now.image.now }
+        ensures exact { Looked (read_refusal (chip_means (chip_view self.now)) page.0 (length buf.old)) (λ note. reads (page_in self.now.image.now page.0) ≡ held note buf.new) (buf.new ≡ buf.old) result }
     {
         self.power
             .allows(Layer::Chip, page.0, buf.len(), self.page_count())?;
@@ -121,7 +131,8 @@ impl<'a> ImageChip<'a> {
 
     // Programs a page: only its own frame changes, and of that not the fate.
     pub fn program_frame(&mut self, page: ChipPage, note: Note, bytes: &[u8]) -> Result<(), Fault>
-        ensures { Counted (program_refusal (chip_means (chip_view self.old)) page.0 (length bytes.now)) (chip_fault page.0 PowerOff) (chip_view self.old) (Framed self.old.image.now page.0 note bytes.now) result (chip_view self.new) }
+        ensures whole { Whole self.new.image.now }
+        ensures exact { Counted (program_refusal (chip_means (chip_view self.old)) page.0 (length bytes.now)) (chip_fault page.0 PowerOff) (chip_view self.old) (Framed self.old.image.now page.0 note bytes.now) result (chip_view self.new) }
     {
         self.allows_program(page, bytes.len())?;
         self.power.burn(Layer::Chip, page.0)?;
@@ -131,7 +142,8 @@ impl<'a> ImageChip<'a> {
 
     // Erases a block: only the state bytes of its pages change.
     pub fn erase_frames(&mut self, block: EraseBlock) -> Result<(), Fault>
-        ensures { Counted (erase_refusal (chip_means (chip_view self.old)) block.0) (chip_fault block.0 PowerOff) (chip_view self.old) (Restated self.old.image.now (erasing self.old.image.now block.0)) result (chip_view self.new) }
+        ensures whole { Whole self.new.image.now }
+        ensures exact { Counted (erase_refusal (chip_means (chip_view self.old)) block.0) (chip_fault block.0 PowerOff) (chip_view self.old) (Restated self.old.image.now (erasing self.old.image.now block.0)) result (chip_view self.new) }
     {
         self.allows_erase(block)?;
         self.power.burn(Layer::Chip, block.0)?;
@@ -141,7 +153,8 @@ impl<'a> ImageChip<'a> {
 
     // Settles every page: only state bytes change.
     pub fn settle_frames(&mut self) -> Result<(), Fault>
-        ensures { Counted (sync_refusal (chip_means (chip_view self.old))) (chip_fault 0 PowerOff) (chip_view self.old) (Restated self.old.image.now (settling self.old.image.now)) result (chip_view self.new) }
+        ensures whole { Whole self.new.image.now }
+        ensures exact { Counted (sync_refusal (chip_means (chip_view self.old))) (chip_fault 0 PowerOff) (chip_view self.old) (Restated self.old.image.now (settling self.old.image.now)) result (chip_view self.new) }
     {
         let power = &mut self.power;
         power.needed(Layer::Chip, 0)?;
@@ -152,15 +165,18 @@ impl<'a> ImageChip<'a> {
 
     // A power cut by the fates, and power with the next fuse: only state bytes change.
     pub fn cut_and_power(&mut self)
-        ensures { Switched (chip_view self.old) (Restated self.old.image.now (cutting self.old.image.now)) (chip_view self.new) }
+        ensures whole { Whole self.new.image.now }
+        ensures exact { Switched (chip_view self.old) (Restated self.old.image.now (cutting self.old.image.now)) (chip_view self.new) }
     {
         chip_frames::cut_frames(self.image);
         self.power.turn_on();
     }
 }
 
-// What the chip does exactly stands on the methods above. A clause here would take the place of the trait's rules, and so have to repeat them.
+// What the chip does exactly stands on the methods above. The clauses here take the place of the trait's, so they repeat its rules; they add what the
+// type keeps, which a model hides from callers.
 impl Chip for ImageChip<'_> {
+    ghost use Rattle.device.specs.Chips.{Reads, Programs, Erases, Syncs, Powers};
     ghost use Rattle.image.specs.OfChip.{chip_view, chip_means};
 
     ghost meaning = { λ c. chip_means (chip_view c) };
@@ -169,23 +185,38 @@ impl Chip for ImageChip<'_> {
         self.block_count()
     }
 
-    fn read(&mut self, page: ChipPage, buf: &mut [u8]) -> Result<Note, Fault> {
+    fn read(&mut self, page: ChipPage, buf: &mut [u8]) -> Result<Note, Fault>
+        ensures sound { Whole self.new.image.now }
+        ensures rules { Reads (chip_means (chip_view self.old)) page.0 buf.old result buf.new (chip_means (chip_view self.new)) }
+    {
         self.read_frame(page, buf)
     }
 
-    fn program(&mut self, page: ChipPage, note: Note, bytes: &[u8]) -> Result<(), Fault> {
+    fn program(&mut self, page: ChipPage, note: Note, bytes: &[u8]) -> Result<(), Fault>
+        ensures sound { Whole self.new.image.now }
+        ensures rules { Programs (chip_means (chip_view self.old)) page.0 note bytes.now result (chip_means (chip_view self.new)) }
+    {
         self.program_frame(page, note, bytes)
     }
 
-    fn erase(&mut self, block: EraseBlock) -> Result<(), Fault> {
+    fn erase(&mut self, block: EraseBlock) -> Result<(), Fault>
+        ensures sound { Whole self.new.image.now }
+        ensures rules { Erases (chip_means (chip_view self.old)) block.0 result (chip_means (chip_view self.new)) }
+    {
         self.erase_frames(block)
     }
 
-    fn sync(&mut self) -> Result<(), Fault> {
+    fn sync(&mut self) -> Result<(), Fault>
+        ensures sound { Whole self.new.image.now }
+        ensures rules { Syncs (chip_means (chip_view self.old)) result (chip_means (chip_view self.new)) }
+    {
         self.settle_frames()
     }
 
-    fn power_on(&mut self) -> Result<(), Fault> {
+    fn power_on(&mut self) -> Result<(), Fault>
+        ensures sound { Whole self.new.image.now }
+        ensures rules { Powers (chip_means (chip_view self.old)) result (chip_means (chip_view self.new)) }
+    {
         self.cut_and_power();
         Ok(())
     }

@@ -4,11 +4,12 @@ ghost use Rattle.device.specs.declared.faults.Refusal.TheVariants.{PowerOff};
 ghost use Rattle.device.specs.Cells.{reads};
 ghost use Rattle.device.specs.Disks.{block_read_refusal, block_write_refusal, block_sync_refusal};
 ghost use Rattle.disk_frames.specs.Frames.{Whole, blocks_in, block_in, written_frame, settled_frame, cut_frame, ChangesOne, ChangesAll};
-ghost use Rattle.image.specs.Exact.{Counted, Looked, Switched, Allows};
+ghost use Rattle.image.specs.Exact.{Device, Counted, Looked, Switched, Allows};
 
 use crate::fuses::Power;
 use crate::unfit::{Unfit, serves};
 use device::{Disk, DiskAddress, Fault, Layer, Refusal};
+use std::marker::Model;
 
 // The most blocks.
 const BLOCKS: usize = 65536;
@@ -18,7 +19,14 @@ const BLOCKS: usize = 65536;
 pub struct ImageDisk<'a> {
     image: &'a mut [u8],
     power: Power<'a>,
-    ghost whole: { Whole image.now },
+}
+
+impl<'a> Model for ImageDisk<'a> {
+    ghost Value = { Device };
+
+    ghost view = { λ d. record { image = d.image; power = d.power } };
+
+    ghost invariant = { λ d. Whole d.image.now };
 }
 
 impl<'a> ImageDisk<'a> {
@@ -50,7 +58,8 @@ impl<'a> ImageDisk<'a> {
     }
 
     fn block_count(&self) -> u32
-        ensures { result ≡ blocks_in self.now.image.now }
+        ensures count { result ≡ blocks_in self.now.image.now }
+        ensures whole { Whole self.now.image.now }
     {
         disk_frames::blocks_in(self.image) as u32
     }
@@ -69,7 +78,8 @@ impl<'a> ImageDisk<'a> {
 
     // Reads a block. It does not count, and nothing changes.
     pub fn read_frame(&self, block: DiskAddress, buf: &mut [u8]) -> Result<(), Fault>
-        ensures { Looked (block_read_refusal disk_layer disk_offline (disk_means (disk_view self.now)) block.0 (length buf.old)) (λ _. buf.new ≡ reads (block_in self.now.image.now block.0)) (buf.new ≡ buf.old) result }
+        ensures whole { Whole self.now.image.now }
+        ensures exact { Looked (block_read_refusal disk_layer disk_offline (disk_means (disk_view self.now)) block.0 (length buf.old)) (λ _. buf.new ≡ reads (block_in self.now.image.now block.0)) (buf.new ≡ buf.old) result }
     {
         self.power
             .allows(Layer::Disk, block.0, buf.len(), self.block_count())?;
@@ -79,7 +89,8 @@ impl<'a> ImageDisk<'a> {
 
     // Writes a block: only its own frame changes, and of that neither the fate nor the settled content.
     pub fn write_frame(&mut self, block: DiskAddress, bytes: &[u8]) -> Result<(), Fault>
-        ensures { Counted (block_write_refusal disk_layer disk_offline (disk_means (disk_view self.old)) block.0 (length bytes.now)) (disk_refuses block.0 PowerOff) (disk_view self.old) (ChangesOne (written_frame bytes.now) block.0 self.old.image.now) result (disk_view self.new) }
+        ensures whole { Whole self.new.image.now }
+        ensures exact { Counted (block_write_refusal disk_layer disk_offline (disk_means (disk_view self.old)) block.0 (length bytes.now)) (disk_refuses block.0 PowerOff) (disk_view self.old) (ChangesOne (written_frame bytes.now) block.0 self.old.image.now) result (disk_view self.new) }
     {
         self.allows_write(block, bytes.len())?;
         self.power.burn(Layer::Disk, block.0)?;
@@ -89,7 +100,8 @@ impl<'a> ImageDisk<'a> {
 
     // Settles every block: only the states and the settled contents of unsettled blocks change.
     pub fn settle_frames(&mut self) -> Result<(), Fault>
-        ensures { Counted (block_sync_refusal disk_offline (disk_means (disk_view self.old))) (disk_refuses 0 PowerOff) (disk_view self.old) (ChangesAll settled_frame self.old.image.now) result (disk_view self.new) }
+        ensures whole { Whole self.new.image.now }
+        ensures exact { Counted (block_sync_refusal disk_offline (disk_means (disk_view self.old))) (disk_refuses 0 PowerOff) (disk_view self.old) (ChangesAll settled_frame self.old.image.now) result (disk_view self.new) }
     {
         let power = &mut self.power;
         power.needed(Layer::Disk, 0)?;
@@ -100,15 +112,18 @@ impl<'a> ImageDisk<'a> {
 
     // A power cut by the fates, and power with the next fuse.
     pub fn cut_and_power(&mut self)
-        ensures { Switched (disk_view self.old) (ChangesAll cut_frame self.old.image.now) (disk_view self.new) }
+        ensures whole { Whole self.new.image.now }
+        ensures exact { Switched (disk_view self.old) (ChangesAll cut_frame self.old.image.now) (disk_view self.new) }
     {
         disk_frames::cut_blocks(self.image);
         self.power.turn_on();
     }
 }
 
-// What the disk does exactly stands on the methods above. A clause here would take the place of the trait's rules, and so have to repeat them.
+// What the disk does exactly stands on the methods above. The clauses here take the place of the trait's, so they repeat its rules; they add what the
+// type keeps, which a model hides from callers.
 impl Disk for ImageDisk<'_> {
+    ghost use Rattle.device.specs.Disks.{BlockReads, BlockWrites, BlockSyncs, BlockPowers};
     ghost use Rattle.image.specs.OfDisk.{disk_view, disk_means, disk_layer, disk_offline};
 
     ghost meaning = { λ d. disk_means (disk_view d) };
@@ -121,19 +136,31 @@ impl Disk for ImageDisk<'_> {
         self.block_count()
     }
 
-    fn read(&mut self, block: DiskAddress, buf: &mut [u8]) -> Result<(), Fault> {
+    fn read(&mut self, block: DiskAddress, buf: &mut [u8]) -> Result<(), Fault>
+        ensures sound { Whole self.new.image.now }
+        ensures rules { BlockReads disk_layer disk_offline disk_offline (disk_means (disk_view self.old)) block.0 buf.old result buf.new (disk_means (disk_view self.new)) }
+    {
         self.read_frame(block, buf)
     }
 
-    fn write(&mut self, block: DiskAddress, bytes: &[u8]) -> Result<(), Fault> {
+    fn write(&mut self, block: DiskAddress, bytes: &[u8]) -> Result<(), Fault>
+        ensures sound { Whole self.new.image.now }
+        ensures rules { BlockWrites disk_layer disk_offline disk_offline (disk_means (disk_view self.old)) block.0 bytes.now result (disk_means (disk_view self.new)) }
+    {
         self.write_frame(block, bytes)
     }
 
-    fn sync(&mut self) -> Result<(), Fault> {
+    fn sync(&mut self) -> Result<(), Fault>
+        ensures sound { Whole self.new.image.now }
+        ensures rules { BlockSyncs disk_offline disk_offline (disk_means (disk_view self.old)) result (disk_means (disk_view self.new)) }
+    {
         self.settle_frames()
     }
 
-    fn power_on(&mut self) -> Result<(), Fault> {
+    fn power_on(&mut self) -> Result<(), Fault>
+        ensures sound { Whole self.new.image.now }
+        ensures rules { BlockPowers disk_offline (disk_means (disk_view self.old)) result (disk_means (disk_view self.new)) }
+    {
         self.cut_and_power();
         Ok(())
     }

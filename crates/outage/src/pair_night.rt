@@ -58,7 +58,6 @@ fn join<P: Chip + Drop, Q: Chip + Drop>(rt: &impl Print, first: P, second: Q) ->
 pub(super) fn run(rt: &impl Print) -> io::Result<()> {
     let mut image = [0; 8 * FRAME];
     let mut other = [0; 16 * FRAME];
-    // One match over both at once is not covered by the check, since a chip keeps what is known of its image.
     match ImageChip::new(&mut image, FIRST) {
         Ok(first) => match ImageChip::new(&mut other, SECOND) {
             Ok(second) => join(rt, first, second),

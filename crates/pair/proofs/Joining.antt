@@ -8,6 +8,7 @@ use Rattle.device.specs.Faults.{chip_fault, refusal_number}
 use Rattle.device.specs.Calls.{Call, Served, Halted}
 use Rattle.device.specs.Chips.{State, Pages, page_count}
 use Rattle.pair.specs.Halves.{beside, join, Paired, placed, placed_at, keeps_power}
+use Rattle.std.proofs.lemmas.Bool.{true≢false}
 
 -- a refusal at the place that the pair was given
 abbrev pub moved : ℕ → Option Fault → Option Fault
@@ -81,3 +82,20 @@ module _ {T : Type 0} (on : Bool) (a b : Pages) (R H : Option Fault) (p k : ℕ)
       (λ u. ap (λ z. join true a z) u ∙ ap (λ z. join z a b) (sym o))
       (λ s. join_becomes (λ x y z. Early y z) true on a b a b' a.cell w want refl s.size ws (λ i. inl refl) s.cells)
       (λ s. join_becomes (λ x y z. (z ≡ x) ⊎ (z ≡ y)) false on a b a b' a.cell w want refl s.size ws (λ i. inl refl) s.cells)
+
+-- A half that was on is on after a call unless power failed in it, and as large as it was.
+pub half_after : {T : Type 0} (H : Option Fault) (k : ℕ) (h h' : Pages) (served halted : ℕ → Cell State → Type 0) (ok : T → Type 0) (same : Type 0)
+    (r : Result T Fault) → h.on ≡ true → Call H (chip_fault k PowerOff) h served halted ok same r h' → (keeps_power r ≡ true → h'.on ≡ true) × (h'.size ≡ h.size)
+half_after H k h h' served halted ok same (Ok x) o (_, _, b) = ((λ _. b.power), b.size)
+half_after H k h h' served halted ok same (Err f) o (_, inl (_, u)) = ((λ _. ap (λ z. z.on) u ∙ o), ap (λ z. z.size) u)
+half_after H k h h' served halted ok same (Err f) o (_, inr (_, l, b)) =
+    ((λ t. absurd (true≢false (sym t ∙ ap (λ z. not (eqb (refusal_number z.refusal) 1)) l))), b.size)
+
+-- A call on a half is one on the whole, by an answer and a chip that are known to be those.
+module _ {T : Type 0} (R H : Option Fault) (p k : ℕ) (m h h' : Pages) (n : Bool → Pages) (served halted served' halted' : ℕ → Cell State → Type 0) (ok : T → Type 0) (same : Type 0) (moves : R ≡ moved p H) (power : lit H ≡ true) (kept : h' ≡ h → n true ≡ m) (serves : Becomes true h served h' → Becomes true m served' (n true)) (halts : Becomes false h halted h' → Becomes false m halted' (n false)) where
+  pub lifted_to : (r r' : Result T Fault) (n' : Pages) → r' ≡ placed_at p r → n' ≡ n (keeps_power r) → Call H (chip_fault k PowerOff) h served halted ok same r h'
+      → Call R (chip_fault p PowerOff) m served' halted' ok same r' n'
+  lifted_to r r' n' e u c =
+      let x : Call R (chip_fault p PowerOff) m served' halted' ok same r' (n (keeps_power r)) =
+      subst (λ z. Call R (chip_fault p PowerOff) m served' halted' ok same z (n (keeps_power r))) (sym e) (lifted R H p k m h h' n served halted served' halted' ok same moves power kept serves halts r c) in
+      subst (λ z. Call R (chip_fault p PowerOff) m served' halted' ok same r' z) (sym u) x

@@ -3,8 +3,9 @@ use Rattle.std.proofs.Common.{◌≡◌, Bool, true, false, ◌⊎◌, is_ok, Ok
 use Rattle.device.specs.declared.faults.Fault.{Fault}
 use Rattle.device.specs.Cells.{Cut}
 use Rattle.device.specs.Chips.{Pages, Tears, Powers}
-use Rattle.pair.specs.Halves.{join}
+use Rattle.pair.specs.Halves.{join, Joined}
 use Rattle.pair.proofs.Joining.{join_becomes}
+use Rattle.pair.specs.Pairs.{InTurn}
 
 module _ (on : Bool) (a b a' b' : Pages) where
   -- power fails in the first half, and the second is not reached
@@ -36,3 +37,10 @@ module _ (on : Bool) (a b a' b' : Pages) where
       join_becomes (λ x y z. (z ≡ x) ⊎ Cut Tears x z) false on a b a' b' a.cell b.cell (join on a b).cell s.size t.size (λ i. refl) (λ i. inr (s.cells i)) t.cells,
     ),
   )
+
+-- a first half that served, and then whatever the second answered
+pub both_in_turn : {P Q : Type 0} (meaning : P → Pages) (meaning' : Q → Pages) (does : Pages → Result (Unit {0}) Fault → Pages → Type 0) (c d : Joined P Q)
+    (r : Result (Unit {0}) Fault) → does (meaning c.first) (Ok tt) (meaning d.first) → does (meaning' c.second) r (meaning' d.second)
+    → InTurn meaning meaning' does c r d
+both_in_turn meaning meaning' does c d (Ok tt) h k = (h, k)
+both_in_turn meaning meaning' does c d (Err f) h k = inr (h, k)

@@ -16,6 +16,12 @@ beside k x y q = cond (nat_lt q k) (x q) (y (q - k))
 abbrev pub join : Bool → Pages → Pages → Pages
 join on a b = record { on = on; size = a.size + b.size; cell = beside (page_count a) a.cell b.cell }
 
+-- a pair: its two halves, and whether it is on
+pub record Joined (P Q : Type 0) : Type 0 where
+  pub first : P
+  pub second : Q
+  pub on : Bool
+
 -- a pair that is on has both halves on, and it is not above 64 erase blocks
 pub record Paired (on : Bool) (a b : Pages) : Type 0 where
   pub first_on : on ≡ true → a.on ≡ true

@@ -1,10 +1,11 @@
 // A chip made of two chips: the first one's erase blocks, then the second's.
 ghost use Rattle.std.specs.Prelude.{◌≡◌, true};
-ghost use Rattle.device.specs.Chips.{page_count, Syncs, Powers};
-ghost use Rattle.pair.specs.Halves.{Paired, PageLies, BlockLies};
+ghost use Rattle.device.specs.Chips.{page_count, Reads, Programs, Erases, Syncs, Powers};
+ghost use Rattle.pair.specs.Halves.{Joined, Paired, PageLies, BlockLies};
 
 use super::halves::{Half, at_place, pages, still_on};
 use device::{Chip, ChipPage, EraseBlock, Fault, Layer, Note, Refusal};
+use std::marker::Model;
 
 // Two chips as one. It is on or off by itself: off as it is made, whatever its halves are.
 #[derive(Drop)]
@@ -12,7 +13,14 @@ pub struct ChipPair<P: Chip, Q: Chip> {
     first: P,
     second: Q,
     on: bool,
-    ghost paired: { Paired on (P.Chip.meaning first) (Q.Chip.meaning second) },
+}
+
+impl<P: Chip, Q: Chip> Model for ChipPair<P, Q> {
+    ghost Value = { Joined P Q };
+
+    ghost view = { λ c. record { first = c.first; second = c.second; on = c.on } };
+
+    ghost invariant = { λ c. Paired c.on (P.Chip.meaning c.first) (Q.Chip.meaning c.second) };
 }
 
 // Why two chips are not joined, with both of them.
@@ -28,8 +36,8 @@ impl<P: Chip, Q: Chip> ChipPair<P, Q> {
 
     // Joins two chips, or gives both back if they have more than 64 erase blocks.
     pub fn new(first: P, second: Q) -> Result<ChipPair<P, Q>, TooLarge<P, Q>>
-        ensures made { PairMade first second result }
-        ensures opens { PairOpens first second result }
+        ensures made { PairMade P.Chip.meaning Q.Chip.meaning first second result }
+        ensures opens { PairOpens P.Chip.meaning Q.Chip.meaning first second result }
     {
         if first.blocks() + second.blocks() > 64 {
             let fault = Refusal::BadGeometry.at(Layer::Chip, 0);
@@ -87,13 +95,16 @@ impl<P: Chip, Q: Chip> ChipPair<P, Q> {
 impl<P: Chip, Q: Chip> Chip for ChipPair<P, Q> {
     ghost use Rattle.pair.specs.Pairs.{pair_meaning, InTurn};
 
-    ghost meaning = { pair_meaning };
+    ghost meaning = { pair_meaning P.Chip.meaning Q.Chip.meaning };
 
     fn blocks(&self) -> u32 {
         self.first.blocks() + self.second.blocks()
     }
 
-    fn read(&mut self, page: ChipPage, buf: &mut [u8]) -> Result<Note, Fault> {
+    fn read(&mut self, page: ChipPage, buf: &mut [u8]) -> Result<Note, Fault>
+        ensures sound { Paired self.new.on (P.Chip.meaning self.new.first) (Q.Chip.meaning self.new.second) }
+        ensures rules { Reads (pair_meaning P.Chip.meaning Q.Chip.meaning self.old) page.0 buf.old result buf.new (pair_meaning P.Chip.meaning Q.Chip.meaning self.new) }
+    {
         if !self.on {
             return Err(Refusal::PowerOff.at(Layer::Chip, page.0));
         }
@@ -105,7 +116,10 @@ impl<P: Chip, Q: Chip> Chip for ChipPair<P, Q> {
         at_place(answer, page.0)
     }
 
-    fn program(&mut self, page: ChipPage, note: Note, bytes: &[u8]) -> Result<(), Fault> {
+    fn program(&mut self, page: ChipPage, note: Note, bytes: &[u8]) -> Result<(), Fault>
+        ensures sound { Paired self.new.on (P.Chip.meaning self.new.first) (Q.Chip.meaning self.new.second) }
+        ensures rules { Programs (pair_meaning P.Chip.meaning Q.Chip.meaning self.old) page.0 note bytes.now result (pair_meaning P.Chip.meaning Q.Chip.meaning self.new) }
+    {
         if !self.on {
             return Err(Refusal::PowerOff.at(Layer::Chip, page.0));
         }
@@ -117,7 +131,10 @@ impl<P: Chip, Q: Chip> Chip for ChipPair<P, Q> {
         at_place(answer, page.0)
     }
 
-    fn erase(&mut self, block: EraseBlock) -> Result<(), Fault> {
+    fn erase(&mut self, block: EraseBlock) -> Result<(), Fault>
+        ensures sound { Paired self.new.on (P.Chip.meaning self.new.first) (Q.Chip.meaning self.new.second) }
+        ensures rules { Erases (pair_meaning P.Chip.meaning Q.Chip.meaning self.old) block.0 result (pair_meaning P.Chip.meaning Q.Chip.meaning self.new) }
+    {
         if !self.on {
             return Err(Refusal::PowerOff.at(Layer::Chip, block.0));
         }
@@ -131,8 +148,9 @@ impl<P: Chip, Q: Chip> Chip for ChipPair<P, Q> {
 
     // The first half, then the second, which is not reached if the first loses power.
     fn sync(&mut self) -> Result<(), Fault>
-        ensures rules { Syncs (pair_meaning self.old) result (pair_meaning self.new) }
-        ensures turn { self.old.on ≡ true → InTurn Syncs self.old result self.new }
+        ensures sound { Paired self.new.on (P.Chip.meaning self.new.first) (Q.Chip.meaning self.new.second) }
+        ensures rules { Syncs (pair_meaning P.Chip.meaning Q.Chip.meaning self.old) result (pair_meaning P.Chip.meaning Q.Chip.meaning self.new) }
+        ensures turn { self.old.on ≡ true → InTurn P.Chip.meaning Q.Chip.meaning Syncs self.old result self.new }
     {
         if !self.on {
             return Err(Refusal::PowerOff.at(Layer::Chip, 0));
@@ -148,8 +166,9 @@ impl<P: Chip, Q: Chip> Chip for ChipPair<P, Q> {
     // The first half, then the second, which is not reached if the first loses power.
     #[tactic(auto, using(crate::proofs::Staging::powers_first, crate::proofs::Staging::powers_in_turn))]
     fn power_on(&mut self) -> Result<(), Fault>
-        ensures rules { Powers (pair_meaning self.old) result (pair_meaning self.new) }
-        ensures turn { InTurn Powers self.old result self.new }
+        ensures sound { Paired self.new.on (P.Chip.meaning self.new.first) (Q.Chip.meaning self.new.second) }
+        ensures rules { Powers (pair_meaning P.Chip.meaning Q.Chip.meaning self.old) result (pair_meaning P.Chip.meaning Q.Chip.meaning self.new) }
+        ensures turn { InTurn P.Chip.meaning Q.Chip.meaning Powers self.old result self.new }
     {
         let answer = match self.first.power_on() {
             Ok(()) => self.second.power_on(),
