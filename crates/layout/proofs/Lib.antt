@@ -1,3 +1,6 @@
+pub mod Numbers
+pub mod Recordwise
+pub mod Entrywise
 pub mod Trailerwise
 pub mod Cellwise
 pub mod Partwise

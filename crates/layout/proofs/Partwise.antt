@@ -4,6 +4,7 @@ use native.Mathlib.Nat.{min-eq_left, min-eq_right}
 use borrow.Rule.Slice.PartMut.{put_mid}
 use Rattle.std.proofs.lemmas.Bool.{cases_lt}
 use Rattle.std.proofs.lemmas.List.{take_all, take_at, drop_at, length-append, length-drop, length-take, length-take-le}
+use Rattle.std.proofs.lemmas.List.{take-append-drop}
 
 front_is : {X : Type 0} (ys : List X) (k : ℕ) → k ≡ min 64 (length ys) → take k ys ≡ take 64 ys
 front_is ys k e =
@@ -46,3 +47,10 @@ same_front t u (suc n) same =
 pub same_parts : {X : Type 0} (t u : List X) (n : ℕ) → length t ≤ 64 * n → length u ≤ 64 * n
     → ((j : ℕ) → j < n → take 64 (drop (64 * j) t) ≡ take 64 (drop (64 * j) u)) → t ≡ u
 same_parts t u n ht hu same = sym (take_all (64 * n) t ht) ∙ same_front t u n same ∙ take_all (64 * n) u hu
+
+-- a part written over with itself
+module _ {X : Type 0} (table : List X) (a e : ℕ) (inside : a ≤ length table) (within : e ≤ length table) (size : e - a ≡ min 64 (length table - a)) where
+  pub part_same : (part : List X) → part ≡ take (e - a) (drop a table) → put_mid a (e - a) table part ≡ table
+  part_same part h =
+      ap (λ z. take a table ++ (z ++ drop (e - a) (drop a table))) h ∙ ap (λ z. take a table ++ z) (take-append-drop (e - a) (drop a table))
+      ∙ take-append-drop a table

@@ -28,3 +28,7 @@ module _ (note : Note) (page : List ℕ) (j : ℕ) (table : List Entry) (e : ℕ
   pub entries_not : ((xs : List Entry) → length xs ≡ e - 64 * j → AllByRecursion ProperEntry xs → page ≡ cells_page entry_bytes xs → ⊥) → (m : Malformed)
       → EntriesRead note page j table (Err m) table
   entries_not none m = (refl, λ t l ps n p. none (entry_part t j) (part_length table (64 * j) e inside within size t l) ps p)
+
+-- a note by its three numbers
+pub note_is : (note : Note) (kind count address : ℕ) → note.0 ≡ kind → note.1 ≡ count → note.2 ≡ address → note ≡ (kind, count, address)
+note_is (k, c, a) kind count address e f g = cc

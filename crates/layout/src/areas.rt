@@ -35,7 +35,7 @@ impl Area {
 impl TryFrom<u16> for Area {
     type Error = u16;
 
-    ghost try_from_gives = { λ n r. MatchResult r (λ area. first_page area ≡ n) (λ _. (area : Area) → first_page area ≢ n) };
+    ghost try_from_gives = { λ n r. MatchResult r (λ area. first_page area ≡ n) (λ m. (m ≡ n) × ((area : Area) → first_page area ≢ n)) };
 
     fn try_from(first: u16) -> Result<Area, u16> {
         match first {

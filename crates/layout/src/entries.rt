@@ -36,7 +36,7 @@ impl Mark {
 impl TryFrom<u8> for Mark {
     type Error = u8;
 
-    ghost try_from_gives = { λ n r. MatchResult r (λ mark. mark_number mark ≡ n) (λ _. (mark : Mark) → mark_number mark ≢ n) };
+    ghost try_from_gives = { λ n r. MatchResult r (λ mark. mark_number mark ≡ n) (λ m. (m ≡ n) × ((mark : Mark) → mark_number mark ≢ n)) };
 
     fn try_from(number: u8) -> Result<Mark, u8> {
         match number {

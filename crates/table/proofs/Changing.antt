@@ -268,3 +268,12 @@ pub enterable : (t : Table) (p : ℕ) (m : Mark) → may_enter t p m ≡ true �
 enterable t p m h =
     let q = and_parts (has_mark m) (ltb p (length t) && not (marked_at t p)) h in
     (q.0, ltb-true p (length t) (and_parts (ltb p (length t)) (not (marked_at t p)) q.1).0)
+
+-- a drop, and a mark of clean
+pub turns_drop : (t u : Table) (a : ℕ) (r : Result (Unit {0}) Breach) → is_ok r ≡ held t a → u ≡ without t a → Turns t (cond (held t a) (Some (without t a)) None) r u
+turns_drop t u a (Ok x) was after = cond-true (held t a) (Some (without t a)) None (sym was) ∙ ap Some (sym after)
+turns_drop t u a (Err x) was after = (cond-false (held t a) (Some (without t a)) None (sym was), after ∙ without_none t a (sym was))
+
+pub turns_clean : (t u : Table) (a : ℕ) (r : Result (Unit {0}) Breach) → is_ok r ≡ held t a → u ≡ cleaned t a → Turns t (cond (held t a) (Some (cleaned t a)) None) r u
+turns_clean t u a (Ok x) was after = cond-true (held t a) (Some (cleaned t a)) None (sym was) ∙ ap Some (sym after)
+turns_clean t u a (Err x) was after = (cond-false (held t a) (Some (cleaned t a)) None (sym was), after ∙ cleaned_none t a (sym was))

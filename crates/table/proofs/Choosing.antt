@@ -12,6 +12,9 @@ use Rattle.table.specs.Tables.{Table, empty, has_mark, is_dirty, entry_at}
 use Rattle.table.specs.Choices.{tally, Chooses}
 use Rattle.table.specs.Usages.{usage, usage_at, usage_in, one_more, FirstFrom, FindsFrom}
 use Rattle.table.specs.Views.{page_number, block_number}
+use Rattle.std.proofs.Common.{◌-◌, leb}
+use Rattle.std.proofs.lemmas.Bool.{le-leb, lt-leb, both_ways, cases_lt, cond-true, cond-false}
+use Rattle.table.specs.Choices.{steps_to, FirstRound, FindsRound}
 
 -- Counting
 
@@ -116,3 +119,40 @@ chosen_by_table fit cost us t end blocks r s same few is each so =
     (chooses_same (λ c. fit (usage_at us c)) (λ c. fit (usage_in t c)) (λ c. cost (usage_at us c)) (λ c. cost (usage_in t c)) blocks
     (λ c l. ap fit (each c (omega arith))) (λ c l. ap cost (each c (omega arith))) r
     (subst (λ n. Chooses (λ c. fit (usage_at us c)) (λ c. cost (usage_at us c)) 8 n r) same so))
+
+-- Going round
+
+module _ (test : ℕ → Bool) (pages cursor : ℕ) where
+  steps_ahead : (i : ℕ) → cursor ≤ i → steps_to pages cursor i ≡ i - cursor
+  steps_ahead i l = cond-true (leb cursor i) (i - cursor) (i + pages - cursor) (le-leb cursor i l)
+
+  steps_round : (i : ℕ) → i < cursor → steps_to pages cursor i ≡ i + pages - cursor
+  steps_round i l = cond-false (leb cursor i) (i - cursor) (i + pages - cursor) (lt-leb cursor i l)
+
+  pub round_ahead : (i : ℕ) → FirstFrom test pages cursor i → FirstRound test pages cursor i
+  round_ahead i first = record {
+    inside = first.inside;
+    found = first.found;
+    before = λ j l less.
+        ⊎_elim
+        (λ behind. absurd (omega (arith, first.inside, first.from, steps_round j behind, steps_ahead i first.from)))
+        (λ ahead. first.before j ahead (omega (arith, steps_ahead j ahead, steps_ahead i first.from)))
+        (cases_lt j cursor);
+  }
+
+  pub round_behind : (i : ℕ) → FindsFrom test pages cursor None → FirstFrom test pages 0 i → FirstRound test pages cursor i
+  round_behind i none first =
+      let behind : i < cursor = ⊎_elim (λ l. l) (λ ge. absurd (both_ways (test i) (none i ge first.inside) first.found)) (cases_lt i cursor) in
+      record {
+        inside = first.inside;
+        found = first.found;
+        before = λ j l less.
+            ⊎_elim
+            (λ b. first.before j (omega arith) (omega (arith, steps_round j b, steps_round i behind)))
+            (λ ahead. none j ahead l)
+            (cases_lt j cursor);
+      }
+
+  pub round_again : (r : Option DataPage) → FindsFrom test pages cursor None → FindsFrom test pages 0 (page_number r) → FindsRound test pages cursor (page_number r)
+  round_again None none all = λ j l. all j (omega arith) l
+  round_again (Some p) none first = round_behind p.0 none first
