@@ -7,6 +7,7 @@ pub mod Dropped
 pub mod Filling
 pub mod Formed
 pub mod Leaving
+pub mod Noting
 pub mod Rows
 pub mod Settledness
 pub mod Spared

@@ -46,3 +46,11 @@ module _ (m m₁ : Pages) (t : Table) (i : ℕ) (q : Quiet m m₁) (before : Bac
       let stuck : Backed (shown m) t (suc i) → ⊥ =
       λ h. not (λ mark. subst (λ page. IsData page (entry_at t i).address.0) (sym (quiet_shown m m₁ q (data_page_at i))) (h i (omega arith) mark)) in
       inr (on, subst (λ v. Unbacked (shown m) v f) same (i, e, l, before, stuck))
+
+-- a held page whose note is of no data page
+pub not_data : (page : State) (note : Note) (bytes : List ℕ) (a : DiskAddress) → page ≡ held note bytes → ((b : DiskAddress) → note ≡ data_note b.0 → ⊥)
+    → IsData page a.0 → ⊥
+not_data page note bytes a e no_one (xs, d) = no_one a (note_of note (data_note a.0) bytes xs (sym e ∙ d))
+  where
+    note_of : (m k : Note) (xs ys : List ℕ) → held m xs ≡ held k ys → m ≡ k
+    note_of m k xs ys e = cc

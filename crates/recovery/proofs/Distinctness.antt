@@ -5,6 +5,9 @@ use Rattle.std.proofs.lemmas.Bool.{eq-eqb, eqb-true, and_parts, and_from, or_cas
 use Rattle.layout.specs.declared.entries.Entry.{Entry}
 use Rattle.table.specs.Tables.{Table, empty, entry_at, has_mark, holds, held}
 use Rattle.recovery.specs.Recovering.{DistinctBelow}
+use Rattle.std.proofs.Common.{◌≤◌, Bool, ◌&&◌, ◌||◌, drop}
+use Rattle.std.proofs.lemmas.List.{at_drop_more, drop_all}
+use Rattle.std.proofs.lemmas.Bool.{or_left}
 
 -- an address that is held is held by some entry
 pub held_at : (t : Table) (a : ℕ) → held t a ≡ true → (i : ℕ) × (i < length t) × (holds a (entry_at t i) ≡ true)
@@ -59,3 +62,24 @@ not_distinct t j l m x inv =
   where
     short : (i : ℕ) → i < length (take j t) → i < j
     short i li = omega (arith, Rattle.std.proofs.lemmas.List.length-take j t)
+
+pub distinct_none : (t : Table) → DistinctBelow t 0
+distinct_none t i j a li lj hi hj = absurd (omega arith)
+
+-- A search for an address among entries, by whether what is left of them holds it.
+module _ (xs : Table) (i a : ℕ) (m : Bool) (l : i < length xs) (e : m ≡ has_mark (entry_at xs i).mark) (inv : held (drop i xs) a ≡ held xs a) where
+  held_step : held (drop i xs) a ≡ (holds a (entry_at xs i) || held (drop (i + 1) xs) a)
+  held_step = at_drop_more (λ z. held z a) xs i empty l
+
+  pub held_found : (m && eqb (entry_at xs i).address.0 a) ≡ true → true ≡ held xs a
+  held_found h =
+      let here : holds a (entry_at xs i) ≡ true = ap (λ z. z && eqb (entry_at xs i).address.0 a) (sym e) ∙ h in
+      sym (or_left (holds a (entry_at xs i)) (held (drop (i + 1) xs) a) here) ∙ sym held_step ∙ inv
+
+  pub held_passed : (m && eqb (entry_at xs i).address.0 a) ≡ false → held (drop (i + 1) xs) a ≡ held xs a
+  held_passed h =
+      let here : holds a (entry_at xs i) ≡ false = ap (λ z. z && eqb (entry_at xs i).address.0 a) (sym e) ∙ h in
+      sym (ap (λ z. z || held (drop (i + 1) xs) a) here) ∙ sym held_step ∙ inv
+
+pub held_end : (xs : Table) (i a : ℕ) → length xs ≤ i → held (drop i xs) a ≡ held xs a → false ≡ held xs a
+held_end xs i a l inv = sym (ap (λ z. held z a) (drop_all i xs l)) ∙ inv

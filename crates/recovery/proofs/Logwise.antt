@@ -17,6 +17,11 @@ use Rattle.recovery.specs.Recovering.{cache_fault, LogStep, Logged}
 use Rattle.recovery.specs.Looking.{shown, Quiet, Lost}
 use Rattle.recovery.specs.Logs.{Replays, Unlogged}
 use Rattle.recovery.proofs.Lookwise.{quiet_shown}
+use Rattle.std.proofs.Common.{zero, suc, eqb, refl, MatchBool, ⊎_elim}
+use Rattle.std.proofs.lemmas.Bool.{eq-eqb, ne_eqb, cases_eq}
+use Rattle.device.specs.Chips.State.{blank, torn}
+use Rattle.table.specs.Tables.{ProperTable}
+use Rattle.table.proofs.Changing.{replayed_keeps}
 
 -- Records replayed one after another: u is what the first k of them make of t.
 module _ (t u : Table) (rs : List Record) (k : ℕ) (so_far : replayed (Some t) (take k rs) ≡ Some u) where
@@ -77,3 +82,34 @@ module _ (D : ℕ) (m m₁ : Pages) (area : Area) (j : ℕ) (t u : Table) (n : �
           λ v k h. not v k (subst (λ page. LogStep page j u n v k) (sym (quiet_shown m m₁ q (log_page_at D area j))) h),
         ),
       )
+
+-- a count of records that fit says whether all do
+pub counted_replay : (t u : Table) (rs : List Record) (r n : ℕ) → length rs ≡ n → r ≤ length rs → replayed (Some t) (take r rs) ≡ Some u
+    → (r < length rs → replayed (Some t) (take (r + 1) rs) ≡ None) → MatchBool (eqb r n) (replayed (Some t) rs ≡ Some u) (replayed (Some t) rs ≡ None)
+counted_replay t u rs r n long few fit stuck =
+    ⊎_elim
+    (λ (e : r ≡ n). rw (eq-eqb r n e) (ap (replayed (Some t)) (sym (take_all r rs (omega arith))) ∙ fit))
+    (λ (ne : r ≡ n → ⊥). rw (ne_eqb r n ne)
+    (ap (replayed (Some t)) (sym (take-append-drop (r + 1) rs)) ∙ replayed_append (Some t) (take (r + 1) rs) (drop (r + 1) rs)
+    ∙ ap (λ o. replayed o (drop (r + 1) rs)) (stuck (omega arith)) ∙ replayed_breach (drop (r + 1) rs)))
+    (cases_eq r n)
+
+-- The log leaves a proper table proper, and as long as it was.
+abbrev Kept : Table → Table → Type 0
+Kept t u = ProperTable u × (length u ≡ length t)
+
+step_keeps : (page : State) (j : ℕ) (t : Table) (n : ℕ) (u : Table) (m : ℕ) → ProperTable t → LogStep page j t n u m → Kept t u
+step_keeps blank j t n u m p (e, f) = subst (Kept t) (sym e) (p, refl)
+step_keeps torn j t n u m p (e, f) = subst (Kept t) (sym e) (p, refl)
+step_keeps (held note bytes) j t n u m p (rs, ok, a, b, e, f) =
+    replayed_keeps (Some t) rs (length t) (λ v d. subst (Kept t) (same v d) (p, refl)) ok.each u e
+  where
+    same : (v : Table) → Some t ≡ Some v → t ≡ v
+    same v d = cc
+
+pub logged_keeps : (D : ℕ) (s : ℕ → State) (area : Area) (j : ℕ) (t u : Table) (m : ℕ) → ProperTable t → Logged D s area j t u m → Kept t u
+logged_keeps D s area zero t u m p (e, f) = subst (Kept t) (sym e) (p, refl)
+logged_keeps D s area (suc j) t u m p (v, n, h, x) =
+    let before = logged_keeps D s area j t v n p h in
+    let after = step_keeps (s (log_page_at D area j)) j v n u m before.0 x in
+    (after.0, after.1 ∙ before.1)

@@ -22,6 +22,7 @@ use Rattle.recovery.specs.Recovering.{cache_fault, DistinctBelow, Entered}
 use Rattle.recovery.specs.Entering.{Taken, EntriesFail}
 use Rattle.recovery.specs.Looking.{shown, Quiet, Lost}
 use Rattle.recovery.proofs.Lookwise.{quiet_none, quiet_then, quiet_shown}
+use Rattle.layout.specs.declared.notes.Malformed.{Malformed}
 
 held_note : (m n : Note) (xs ys : List ℕ) → held m xs ≡ held n ys → m ≡ n
 held_note m n xs ys e = cc
@@ -165,3 +166,9 @@ module _ (D : ℕ) (area : Area) (m n k : Pages) (j : ℕ) (t : Table) (inv : Re
   reading_fails f few (inl x) = inl x
   reading_fails f few (inr (on, (e, stuck))) =
       inr (on, (j, t, e, few, inv.sofar, λ u h. stuck u (subst (λ s. Entered D s area (suc j) u) (sym same_shown) h)))
+
+-- a page that is no entry page
+pub not_read : {x : Malformed} {y : Misfit} (page : State) (note : Note) (bytes : List ℕ) (j : ℕ) (t u : Table) → page ≡ held note bytes → EntriesRead note bytes j t (Err x) u
+    → Taken page j t (Err y) u
+not_read page note bytes j t u e (_, none) v lv front pv cv dv =
+    none v lv cv (held_note note (entry_note j) bytes (entry_data v j) (sym e ∙ pv)) (held_bytes note (entry_note j) bytes (entry_data v j) (sym e ∙ pv))

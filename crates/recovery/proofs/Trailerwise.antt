@@ -13,6 +13,11 @@ use Rattle.recovery.specs.Recovering.Failed.{no_trailer, second_trailer, same_nu
 use Rattle.recovery.specs.Looking.{shown, Quiet, Stage, Lost}
 use Rattle.recovery.specs.Trailers.{TrailerIs, Judged, Chosen}
 use Rattle.recovery.proofs.Lookwise.{quiet_shown}
+use Rattle.std.proofs.Common.{List, ap, ◌∙◌}
+use Rattle.device.specs.Chips.{Note}
+use Rattle.device.specs.Chips.State.{held}
+use Rattle.layout.specs.Pages.{trailer_note, trailer_data, TrailerRead}
+use Rattle.recovery.specs.Recovering.{Counts}
 
 pub formed : (D : ℕ) (s : ℕ → State) (area : Area) (o : Option ℕ) → TrailerIs D s area o → Malformed D s area → ⊥
 formed D s area (Some n) h (c, not) = not n h
@@ -54,3 +59,27 @@ pub judged_stage : (D : ℕ) (s : ℕ → State) (area : Area) (r : Result (Opti
 judged_stage D s area (Ok (Some n)) m on h = (on, h)
 judged_stage D s area (Ok None) m on h = (on, h)
 judged_stage D s area (Err f) m on h = inr (on, h)
+
+-- a page of kind 2 that is no trailer of the area
+pub malformed : (D : ℕ) (page : State) (area : Area) (note : Note) (bytes : List ℕ) → page ≡ held note bytes → note.0 ≡ 2 → TrailerRead area D note bytes None
+    → Counts page × ((n : ℕ) → Numbered D area page n → ⊥)
+malformed D page area note bytes e two no_one = (
+  subst Counts (sym e) two,
+  λ n h.
+      let both : held note bytes ≡ held (trailer_note D n) (trailer_data area D) = sym e ∙ h.is in
+      no_one n h.small (note_of note (trailer_note D n) bytes (trailer_data area D) both) (bytes_of note (trailer_note D n) bytes (trailer_data area D) both),
+)
+  where
+    note_of : (m k : Note) (xs ys : List ℕ) → held m xs ≡ held k ys → m ≡ k
+    note_of m k xs ys e = cc
+
+    bytes_of : (m k : Note) (xs ys : List ℕ) → held m xs ≡ held k ys → xs ≡ ys
+    bytes_of m k xs ys e = cc
+
+-- a page of kind 2 that is one
+pub numbered : (D : ℕ) (page : State) (area : Area) (note : Note) (bytes : List ℕ) (n : ℕ) → page ≡ held note bytes → TrailerRead area D note bytes (Some n) → Numbered D area page n
+numbered D page area note bytes n e (l, a, b) = record { small = l; is = e ∙ ap (λ z. held z bytes) a ∙ ap (held (trailer_note D n)) b }
+
+-- a page that is not held with kind 2
+pub uncounted : (page : State) (note : Note) (bytes : List ℕ) → page ≡ held note bytes → (note.0 ≡ 2 → ⊥) → Counts page → ⊥
+uncounted page note bytes e not c = not (subst Counts e c)
