@@ -16,7 +16,7 @@ use Rattle.cache.specs.Refusals.{unless_off, write_refusal, held_refusal, read_r
 use Rattle.cache.specs.Views.{Working}
 use Rattle.cache.specs.Caches.{Call, ReadCall}
 
-never : {A : Type 0} {x : A} → ◌≡◌ {A = Option A} (Some x) None → ⊥
+pub never : {A : Type 0} {x : A} → ◌≡◌ {A = Option A} (Some x) None → ⊥
 never e = grind arith
 
 -- a block that was not refused is whole

@@ -1,2 +1,2 @@
-mod Calling
-mod Starting
+pub mod Calling
+pub mod Starting

@@ -12,7 +12,7 @@ use Rattle.journal.specs.Steps.{Fails}
 use Rattle.engine.specs.declared.memory.Memory.{Memory}
 use Rattle.engine.specs.Works.{Holding, Writes, Evicts, Cleans, Flushes, Fetches, Woken, StaysDark, Begun}
 use Rattle.cache.specs.declared.bare.Permit.{Permit}
-use Rattle.cache.specs.Views.{Working, Bare}
+use Rattle.cache.specs.Views.{Working, Bare, Sound}
 use Rattle.cache.specs.Refusals.{write_refusal, read_refusal, held_refusal, exists_refusal, unless_off, off_by}
 
 module _ {C : Type 0} (meaning : C → Pages) where
@@ -26,6 +26,10 @@ module _ {C : Type 0} (meaning : C → Pages) where
   -- between calls the chip holds a committed table, while the cache is on
   abbrev pub HoldsTable : Working C → Table → Type 0
   HoldsTable c t = Holding (pages_of c.journal) (chip_of c) (view_of c) c.space t
+
+  -- what the type of a cache keeps, for those who see only its value
+  abbrev pub IsSound : Working C → Type 0
+  IsSound c = Sound (chip_of c) (record { journal = c.journal; space = c.space }) c.off
 
   -- A call that its conditions refuse answers that refusal, and nothing has changed. Any other does its work, and is off afterwards only if power failed.
   abbrev pub Call : {T : Type 0} → Option Fault → (Result T Fault → Type 0) → Working C → Result T Fault → Working C → Type 0

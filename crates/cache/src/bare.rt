@@ -2,7 +2,7 @@
 ghost use Rattle.std.specs.Prelude.{◌≡◌, Some, None};
 ghost use Rattle.engine.specs.declared.memory.Memory.{Memory};
 ghost use Rattle.cache.specs.Views.{Bare, BareSound, ReadyToOpen};
-ghost use Rattle.cache.specs.Caches.{Granted, FormCall, AdoptCall, Opens};
+ghost use Rattle.cache.specs.Caches.{IsSound, Granted, FormCall, AdoptCall, Opens};
 
 use crate::working::Cache;
 use device::{Chip, Fault};
@@ -84,6 +84,7 @@ impl<C: Chip> BareCache<C> {
     // A working cache. It cannot be refused: this very cache granted the permit.
     pub fn open(self, permit: Permit) -> Cache<C>
         requires granted { Granted C.Chip.meaning self permit }
+        ensures sound { IsSound C.Chip.meaning result }
         ensures ready { BareSound (C.Chip.meaning self.chip) self.memory }
         ensures opens { (w : Memory) → self.memory ≡ Some w → Opens C.Chip.meaning self w result }
     {

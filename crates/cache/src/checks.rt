@@ -5,6 +5,7 @@ ghost use Rattle.recovery.specs.Recovering.{cache_fault};
 ghost use Rattle.table.specs.Views.{Finds};
 ghost use Rattle.journal.specs.Notes.{noted};
 ghost use Rattle.cache.specs.Refusals.{write_refusal, held_refusal, exists_refusal, off_after};
+ghost use Rattle.cache.specs.Caches.{IsSound};
 
 use crate::working::Cache;
 use device::{Chip, DataPage, DiskAddress, Fault, Layer, Refusal};
@@ -44,9 +45,10 @@ pub(crate) fn off_after(answer: Result<(), Fault>) -> Option<Fault>
 }
 
 impl<C: Chip> Cache<C> {
-    // The fault that the cache repeats while it is off.
+    // The fault that the cache repeats while it is off. Its look at the cache tells the calls what the type keeps.
     pub(crate) fn awake(&self) -> Result<(), Fault>
-        ensures { elim result [ Ok x ↦ self.now.off ≡ None | Err f ↦ self.now.off ≡ Some f ] }
+        ensures sound { IsSound C.Chip.meaning self.now }
+        ensures awake { elim result [ Ok x ↦ self.now.off ≡ None | Err f ↦ self.now.off ≡ Some f ] }
     {
         match self.off {
             Some(fault) => Err(fault),

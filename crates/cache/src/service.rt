@@ -1,6 +1,6 @@
 // The calls of a working cache.
 ghost use Rattle.std.specs.Prelude.{◌≡◌, true, false, length};
-ghost use Rattle.cache.specs.Caches.{WriteCall, ReadCall, EvictCall, CleanCall, ExistsCall, SyncCall, PowerCall};
+ghost use Rattle.cache.specs.Caches.{IsSound, WriteCall, ReadCall, EvictCall, CleanCall, ExistsCall, SyncCall, PowerCall};
 
 use crate::checks::{check_block, check_marks, off_after};
 use crate::working::Cache;
@@ -11,6 +11,7 @@ use layout::Mark;
 impl<C: Chip> Cache<C> {
     // Writes a block that is newer than the disk's: it is kept until it is evicted or marked clean.
     pub fn write_dirty(&mut self, address: DiskAddress, bytes: &[u8]) -> Result<(), Fault>
+        ensures sound { IsSound C.Chip.meaning self.new }
         ensures size { self.new.journal.geometry ≡ self.old.journal.geometry }
         ensures call { WriteCall C.Chip.meaning true address.0 bytes.now self.old result self.new }
     {
@@ -19,6 +20,7 @@ impl<C: Chip> Cache<C> {
 
     // Writes a block as the disk has it: it may be dropped when room is needed.
     pub fn write_clean(&mut self, address: DiskAddress, bytes: &[u8]) -> Result<(), Fault>
+        ensures sound { IsSound C.Chip.meaning self.new }
         ensures size { self.new.journal.geometry ≡ self.old.journal.geometry }
         ensures call { WriteCall C.Chip.meaning false address.0 bytes.now self.old result self.new }
     {
@@ -26,6 +28,7 @@ impl<C: Chip> Cache<C> {
     }
 
     fn write(&mut self, dirty: bool, address: DiskAddress, bytes: &[u8]) -> Result<(), Fault>
+        ensures sound { IsSound C.Chip.meaning self.new }
         ensures size { self.new.journal.geometry ≡ self.old.journal.geometry }
         ensures call { WriteCall C.Chip.meaning dirty address.0 bytes.now self.old result self.new }
     {
@@ -38,6 +41,7 @@ impl<C: Chip> Cache<C> {
 
     // Puts the data of an address that is held into the buffer.
     pub fn read(&mut self, address: DiskAddress, buf: &mut [u8]) -> Result<(), Fault>
+        ensures sound { IsSound C.Chip.meaning self.new }
         ensures size { self.new.journal.geometry ≡ self.old.journal.geometry }
         ensures call { ReadCall C.Chip.meaning address.0 buf.old self.old result buf.new self.new }
     {
@@ -51,6 +55,7 @@ impl<C: Chip> Cache<C> {
 
     // Drops an address that is held, dirty or clean.
     pub fn evict(&mut self, address: DiskAddress) -> Result<(), Fault>
+        ensures sound { IsSound C.Chip.meaning self.new }
         ensures size { self.new.journal.geometry ≡ self.old.journal.geometry }
         ensures call { EvictCall C.Chip.meaning address.0 self.old result self.new }
     {
@@ -63,6 +68,7 @@ impl<C: Chip> Cache<C> {
 
     // Marks an address that is held clean: the disk has it now.
     pub fn clean(&mut self, address: DiskAddress) -> Result<(), Fault>
+        ensures sound { IsSound C.Chip.meaning self.new }
         ensures size { self.new.journal.geometry ≡ self.old.journal.geometry }
         ensures call { CleanCall C.Chip.meaning address.0 self.old result self.new }
     {
@@ -90,6 +96,7 @@ impl<C: Chip> Cache<C> {
 
     // Commits what is staged.
     pub fn sync(&mut self) -> Result<(), Fault>
+        ensures sound { IsSound C.Chip.meaning self.new }
         ensures size { self.new.journal.geometry ≡ self.old.journal.geometry }
         ensures call { SyncCall C.Chip.meaning self.old result self.new }
     {
@@ -101,6 +108,7 @@ impl<C: Chip> Cache<C> {
 
     // Powers the chip on and recovers the table; the only call that a cache takes while it is off.
     pub fn power_on(&mut self) -> Result<(), Fault>
+        ensures sound { IsSound C.Chip.meaning self.new }
         ensures size { self.new.journal.geometry ≡ self.old.journal.geometry }
         ensures call { PowerCall C.Chip.meaning self.old result self.new }
     {

@@ -30,7 +30,7 @@ returns-in-Dirty-clause-call g c =
     let after : Working g.row.C.Denot =
     record { chip = c.clean-answer.new.chip; journal = c.clean-answer.new.self.journal; space = c.clean-answer.new.self.space; off = c.off_after-self-inside.result } in
     rw (← c.self.view_is) (answered g.C.Chip.meaning (unless_off c.self.inside.off (held_refusal t a)) (λ r. CleanWork g.C.Chip.meaning (mark_of t a) a before r after)
-    before after c.clean-answer.result (on_refusal c.self.inside.off _ (ap (λ v. v.off) c.self.view_is ∙ c.in_ok-awake.ensures) here) c.off_after-self-inside.ensures
+    before after c.clean-answer.result (on_refusal c.self.inside.off _ (ap (λ v. v.off) c.self.view_is ∙ c.in_ok-awake.ensures.awake) here) c.off_after-self-inside.ensures
     (subst (λ z. CleanWork g.C.Chip.meaning z a before c.clean-answer.result after) (sym dirty) (cleaned.cleans, cleaned.space)))
 
 pub returns-in-Clean : goal.returns-in-Clean
@@ -41,6 +41,7 @@ returns-in-Clean g c =
     let clean = found_clean (noted s.journal).table (table_of c.table.result.now) a c.in_ok-page.page.0 c.entry.result
     c.in_ok-page.ensures.1 (c.table.ensures ∙ same) c.entry.ensures c.in-Clean.is in
     record {
+      sound = c.in_ok-awake.ensures.sound;
       size = refl;
-      call = (on_refusal s.off _ c.in_ok-awake.ensures c.in_ok-page.ensures.0, c.in_ok-awake.ensures, rw clean (refl, refl));
+      call = (on_refusal s.off _ c.in_ok-awake.ensures.awake c.in_ok-page.ensures.0, c.in_ok-awake.ensures.awake, rw clean (refl, refl));
     }

@@ -15,4 +15,4 @@ returns-clause-call g c =
     let here = subst (λ v. held_refusal (noted v.journal).table a ≡ None) (sym c.self.view_is) c.in_ok-page_of.ensures.0 in
     rw (← c.self.view_is) (answered g.C.Chip.meaning (unless_off c.self.inside.off (held_refusal (noted w.journal).table a))
     (λ r. Evicts (pages_of w.journal) a (g.C.Chip.meaning c.self.inside.chip) (noted w.journal) w.space r (g.C.Chip.meaning c.evict-answer.new.chip) (noted after.journal) × (after.space ≡ w.space))
-    _ _ c.evict-answer.result (on_refusal c.self.inside.off _ (ap (λ v. v.off) c.self.view_is ∙ c.in_ok-awake.ensures) here) c.off_after-self-inside.ensures (evicted.evicts, evicted.space))
+    _ _ c.evict-answer.result (on_refusal c.self.inside.off _ (ap (λ v. v.off) c.self.view_is ∙ c.in_ok-awake.ensures.awake) here) c.off_after-self-inside.ensures (evicted.evicts, evicted.space))

@@ -14,5 +14,5 @@ returns-clause-call g c =
     (record { chip = c.self.inside.chip; journal = w.journal; space = w.space; off = c.self.inside.off })
     (record { chip = c.fetch-answer.new.chip; journal = w.journal; space = w.space; off = c.off_after-self-inside.result })
     c.fetch-answer.result
-    (read_allowed c.self.inside.off (noted w.journal).table a (length c.args.buf.now) (ap (λ v. v.off) c.self.view_is ∙ c.in_ok-awake.ensures) c.in_ok-check_block.ensures here)
+    (read_allowed c.self.inside.off (noted w.journal).table a (length c.args.buf.now) (ap (λ v. v.off) c.self.view_is ∙ c.in_ok-awake.ensures.awake) c.in_ok-check_block.ensures here)
     c.off_after-self-inside.ensures refl refl c.fetch-answer.ensures.fetches)

@@ -14,4 +14,4 @@ returns-clause-call g c =
     rw (← c.self.view_is) (answered g.C.Chip.meaning (write_refusal c.self.inside.off c.args.address.0 len)
     (λ r. Writes (pages_of w.journal) w.journal.geometry.blocks c.args.dirty c.args.address.0 c.args.bytes.now (g.C.Chip.meaning c.self.inside.chip) (noted w.journal) w.space r
     (g.C.Chip.meaning c.write-answer.new.chip) (noted after.journal) after.space)
-    _ _ c.write-answer.result (ap (λ o. write_refusal o c.args.address.0 len) (ap (λ v. v.off) c.self.view_is ∙ c.in_ok-awake.ensures) ∙ c.in_ok-check_block.ensures) c.off_after-self-inside.ensures c.write-answer.ensures.writes)
+    _ _ c.write-answer.result (ap (λ o. write_refusal o c.args.address.0 len) (ap (λ v. v.off) c.self.view_is ∙ c.in_ok-awake.ensures.awake) ∙ c.in_ok-check_block.ensures) c.off_after-self-inside.ensures c.write-answer.ensures.writes)
