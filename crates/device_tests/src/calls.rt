@@ -1,7 +1,6 @@
 // Calls of a device with the answers that they are to have, and how to check them.
 use crate::bytes::is_untouched;
 use device::Fault;
-use std::process::Abort;
 
 // An answer. A refusal has its number, layer and place; a read is known by the tag that it found. That the numbers are right
 // is what is tested, so they stay numbers. A `Result` would be no plainer: it would put a second pair of brackets round the
@@ -44,16 +43,31 @@ pub(super) fn unread(fault: Fault, buf: &[u8]) -> Answer {
     }
 }
 
-// Makes the calls of a row in turn and checks every answer.
+// A step that was answered otherwise than it was to be.
+#[derive(Clone, Copy, PartialEq, Debug)]
+pub(super) struct Wrong {
+    pub step: usize,
+    pub got: Answer,
+    pub wanted: Answer,
+}
+
+// Makes the calls in turn and checks every answer. It answers the first wrong step and asserts nothing, so that it needs no
+// leave to abort.
 pub(super) fn check_steps<C: Copy, F: FnMut(C) -> Answer>(
-    rt: &impl Abort,
-    row: usize,
     steps: &[Step<C>],
     mut answer_to: F,
-)
+) -> Result<(), Wrong>
     requires { F.IsAlwaysCallable answer_to }
 {
     for (step, Step(call, wanted)) in steps.iter().enumerate() {
-        assert_eq!(rt; answer_to(*call), *wanted, "row {row}, step {step}");
+        let got = answer_to(*call);
+        if got != *wanted {
+            return Err(Wrong {
+                step,
+                got,
+                wanted: *wanted,
+            });
+        }
     }
+    Ok(())
 }

@@ -1,8 +1,7 @@
 // Calls of a chip, and what they answer.
 use crate::bytes::{UNTOUCHED, data_of, has_tag, note_of};
-use crate::calls::{Answer, Step, check_steps, done, unread};
+use crate::calls::{Answer, Step, Wrong, check_steps, done, unread};
 use device::{Chip, ChipPage, EraseBlock, Fault};
-use std::process::Abort;
 
 // A call. A read has its page and the length of its buffer, a program its page, the number of its bytes and their tag.
 #[derive(Clone, Copy)]
@@ -50,7 +49,7 @@ impl Call {
     }
 }
 
-// Makes the calls of a row and checks every answer.
-pub(super) fn check_chip<C: Chip>(rt: &impl Abort, row: usize, chip: &mut C, steps: &[Step<Call>]) {
-    check_steps(rt, row, steps, |call| call.make(chip));
+// Makes the calls in turn and checks every answer.
+pub(super) fn check_chip<C: Chip>(chip: &mut C, steps: &[Step<Call>]) -> Result<(), Wrong> {
+    check_steps(steps, |call| call.make(chip))
 }

@@ -33,7 +33,7 @@ fn take_steps<'a>(rt: &impl Abort, row: usize, image: &'a mut [u8], case: &ChipC
     let Ok(mut chip) = ImageChip::new(image, case.fuses) else {
         panic!(rt; "row {row}, no chip was made");
     };
-    check_chip(rt, row, &mut chip, case.steps);
+    assert_eq!(rt; check_chip(&mut chip, case.steps), Ok(()), "row {row}");
 }
 
 // Tries the case of a row over an image chip.

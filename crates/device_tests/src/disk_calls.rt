@@ -1,8 +1,7 @@
 // Calls of a disk, and what they answer.
 use crate::bytes::{UNTOUCHED, data_of, has_tag};
-use crate::calls::{Answer, Step, check_steps, done, unread};
+use crate::calls::{Answer, Step, Wrong, check_steps, done, unread};
 use device::{Disk, DiskAddress, Fault};
-use std::process::Abort;
 
 // A call. A read has its block and the length of its buffer, a write its block, the number of its bytes and their tag.
 #[derive(Clone, Copy)]
@@ -48,12 +47,7 @@ impl DiskCall {
     }
 }
 
-// Makes the calls of a row and checks every answer.
-pub(super) fn check_disk<D: Disk>(
-    rt: &impl Abort,
-    row: usize,
-    disk: &mut D,
-    steps: &[Step<DiskCall>],
-) {
-    check_steps(rt, row, steps, |call| call.make(disk));
+// Makes the calls in turn and checks every answer.
+pub(super) fn check_disk<D: Disk>(disk: &mut D, steps: &[Step<DiskCall>]) -> Result<(), Wrong> {
+    check_steps(steps, |call| call.make(disk))
 }

@@ -33,7 +33,7 @@ fn take_steps<'a>(rt: &impl Abort, row: usize, image: &'a mut [u8], case: &DiskC
     let Ok(mut disk) = ImageDisk::new(image, case.fuses) else {
         panic!(rt; "row {row}, no disk was made");
     };
-    check_disk(rt, row, &mut disk, case.steps);
+    assert_eq!(rt; check_disk(&mut disk, case.steps), Ok(()), "row {row}");
 }
 
 // Tries the case of a row.

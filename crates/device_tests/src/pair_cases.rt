@@ -38,7 +38,7 @@ fn join<P: Chip + Drop, Q: Chip + Drop>(
     match ChipPair::new(first, second) {
         Ok(mut pair) => {
             assert_eq!(rt; Answer::Counted(pair.blocks()), answer, "row {row}");
-            check_chip(rt, row, &mut pair, steps);
+            assert_eq!(rt; check_chip(&mut pair, steps), Ok(()), "row {row}");
         }
         Err(large) => assert_eq!(rt; Answer::from(large.fault), answer, "row {row}"),
     }

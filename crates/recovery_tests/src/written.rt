@@ -138,6 +138,22 @@ struct Trial<'r, R> {
     first: u32,
 }
 
+// What is to be found needs no leave to abort.
+impl<R> Trial<'_, R> {
+    // What a full log leaves where page `j` is held, blank or torn. Every page but the last takes back what it puts, so only the
+    // last one can be missed; and a blank one there is the next log page.
+    fn left_by<'a>(&self, j: u8, state: (u8, u8), marked: &'a [Marked]) -> Answer<'a> {
+        let pages = self.geometry.log_pages();
+        if state == HELD || !is_last(self.geometry, j) {
+            Ok(Found(self.area, 0, pages, marked))
+        } else if state == BLANK {
+            Ok(Found(self.area, 0, j, &[]))
+        } else {
+            Ok(Found(self.area, 0, pages, &[]))
+        }
+    }
+}
+
 impl<R: Abort> Trial<'_, R> {
     // Every data page marked.
     fn try_full_table(&self) -> Result<(), Fail> {
@@ -153,25 +169,13 @@ impl<R: Abort> Trial<'_, R> {
         Ok(())
     }
 
-    // What a full log leaves where page `j` is held, blank or torn. Every page but the last takes back what it puts, so only the
-    // last one can be missed; and a blank one there is the next log page.
-    fn left_by<'a>(&self, j: u8, state: (u8, u8), marked: &'a [Marked]) -> Answer<'a> {
-        let pages = self.geometry.log_pages();
-        if state == HELD || !is_last(self.geometry, j) {
-            Ok(Found(self.area, 0, pages, marked))
-        } else if state == BLANK {
-            Ok(Found(self.area, 0, j, &[]))
-        } else {
-            Ok(Found(self.area, 0, pages, &[]))
-        }
-    }
-
     // Every log page full, behind an empty table, and then page `j` in this state.
     fn try_log(&self, j: u8, state: (u8, u8)) -> Result<(), Fail> {
         let count = self.geometry.data_pages() as usize;
         let empty = [Entry::empty(); 448];
         let left: [Entry; 32] = array::from_fn(|i| left_at(i, self.first));
-        let marked = marks_of(&left);
+        // 1 is the number of a clean mark. That it is right is tested too, so it stays a number.
+        let marked: [Marked; 32] = array::from_fn(|i| Marked(i as u16, 1, left[i].address.0));
         let mut written = Written::new(self.heap, self.geometry, self.area)?;
         written.lay_checkpoint(0, &empty[..count]);
         written.lay_log();
