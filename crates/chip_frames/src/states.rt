@@ -48,14 +48,12 @@ impl From<u8> for State {
 impl From<u8> for Fate {
     ghost from_gives = { λ b f. f ≡ fate_of b };
 
-    // Any other byte than 0 and 1 is torn. It is asked first, since that makes the loop of a power-on shortest.
+    // Any other byte than 0 and 1 is torn.
     fn from(byte: u8) -> Fate {
-        if byte > 1 {
-            Fate::Torn
-        } else if byte == 1 {
-            Fate::New
-        } else {
-            Fate::Old
+        match byte {
+            0 => Fate::Old,
+            1 => Fate::New,
+            _ => Fate::Torn,
         }
     }
 }
@@ -95,10 +93,6 @@ impl State {
     pub fn cut(self, fate: Fate) -> State
         ensures { state_number result ≡ cut_state (state_number self) (fate_number fate) }
     {
-        // Most pages are settled, and are let through first: a power-on goes through every frame.
-        if !self.is_unsettled() {
-            return self;
-        }
         match self {
             State::Blank | State::Held | State::Torn => self,
             State::Programmed => fate.of(State::Blank, State::Held),
